@@ -1,0 +1,9 @@
+pub mod Tables
+pub mod Shared
+pub mod Examples
+pub mod Ancestry
+pub mod Primaries
+pub mod Parts
+pub mod Roots
+pub mod Laid
+pub mod Laying

@@ -1,0 +1,209 @@
+-- What the proofs of the functions share. Assumes nothing.
+use mathlib.Core.Path.{_≡_, refl, sym, ap, subst, _∙_}
+use mathlib.Core.Logic.{_⊎_, ⊎-elim, by-cases}
+use mathlib.Core.Bool.{Bool, true, false, not, _||_, cond}
+use mathlib.Core.List.{List, [], _∷_}
+use Prim.Native.Nat.{ℕ, zero, suc, _+_, _-_, _^_, _≤_, _<_}
+use native.Mathlib.Nat.{not-suc-le-zero, le-of-suc-le-suc, lt-irrefl, le-antisymm}
+use native.Mathlib.Numerals.{add-one}
+use native.Mathlib.Decide.{decLt}
+use native.Mathlib.Omega.{arith}
+use borrow.Author.Count.{below-more}
+use borrow.Author.Tests.{lt-ltb, le-ltb, le-leb, lt-leb, eq-eqb, ne-eqb}
+use lib.Dec.{ltb, leb, eqb, eqb·suc-zero}
+use lib.Count.{trailingZeros, trailing-of-zero}
+use lib.Arith.{lt-one}
+use lib.Pow.{pow-pos}
+use lib.Bits.{or-zero-l, or-zero-r}
+use lib.ListN.{length, getD, set, length-set, List·getD-eq-default}
+use lib.Seq.{getD-set-same, getD-set-other}
+use Rattle.sets.specs.Sets.{member, union, intersection, difference, including, lowest, includingIf, collect}
+use Rattle.sets.proofs.Bools.{cond-true, cond-false}
+use Rattle.sets.proofs.Laws.{union-below, intersection-below, difference-below, including-below, member-union, member-including, same-members}
+use Rattle.forest.specs.Tables.{tabulate}
+use Rattle.forest.specs.Forest.{parent, ancestorsWithin, ancestors, primary}
+use Rattle.forest.specs.Calls.{badCounts, emptyGroups, outsideGroups, refuse, groupsRefusal, orRoots}
+use Rattle.forest.proofs.Tables.{tabulated, collect-turn}
+
+-- ---- entries of a list
+
+-- within the list the default does not matter
+pub getD-any : (l : List ℕ) (i d e : ℕ) → i < length l → getD l i d ≡ getD l i e
+getD-any [] i d e h = absurd (not-suc-le-zero h)
+getD-any (x ∷ l) zero d e h = refl
+getD-any (x ∷ l) (suc i) d e h = getD-any l i d e (le-of-suc-le-suc h)
+
+-- past the list the default stands
+pub getD-beyond : (l : List ℕ) (i d : ℕ) → length l ≤ i → getD l i d ≡ d
+getD-beyond l i d h = List·getD-eq-default l d h
+
+-- whatever a test says
+pub cond-beyond : (b : Bool) (l : List ℕ) (i d : ℕ) → length l ≤ i → d ≡ cond b (getD l i d) d
+cond-beyond true l i d h = sym (getD-beyond l i d h)
+cond-beyond false l i d h = refl
+
+-- ---- tests
+
+pub not-ltb : (a b : ℕ) → leb b a ≡ not (ltb a b)
+not-ltb a b = by-cases (decLt a b)
+    (λ (h : a < b). lt-leb b a h ∙ ap not (sym (lt-ltb a b h)))
+    (λ (h : a < b → ⊥). let l : b ≤ a = omega arith in le-leb b a l ∙ ap not (sym (le-ltb a b l)))
+
+-- what a test against 0 said of a result holds of what the result is
+pub is-zero : {x y : ℕ} → x ≡ y → x ≡ 0 → eqb y 0 ≡ true
+is-zero e h = eq-eqb _ 0 (sym e ∙ h)
+
+pub no-zero : {x y : ℕ} → x ≡ y → (x ≡ 0 → ⊥) → eqb y 0 ≡ false
+no-zero e h = ne-eqb _ 0 (λ z. h (e ∙ z))
+
+-- ---- the empty set
+
+pub no-difference : (t : ℕ) → difference 0 t ≡ 0
+no-difference t = lt-one (difference-below 0 0 t (omega arith))
+
+pub no-intersection : (t : ℕ) → intersection 0 t ≡ 0
+no-intersection t = lt-one (intersection-below 0 0 t (omega arith))
+
+-- a group without members has no primary
+pub no-primary : (ps : List ℕ) → primary ps 0 ≡ 32
+unfolding primary lowest
+no-primary ps = ap (trailingZeros 32) (no-intersection _) ∙ trailing-of-zero 32
+
+-- a member may be added to either side of a union
+pub including-passes : (s t u : ℕ) → s < 2 ^ 32 → t < 2 ^ 32 → union s (including t u) ≡ union (including s u) t
+including-passes s t u hs ht =
+    same-members 32 _ _ (union-below 32 _ _ hs (including-below t u ht)) (union-below 32 _ _ (including-below s u hs) ht)
+    (λ v b. simp (member-union, member-including) (or-swap (member s v) (member t v) _))
+  where
+    or-swap : (a b d : Bool) → (a || (b || d)) ≡ ((a || d) || b)
+    or-swap true b d = refl
+    or-swap false true true = refl
+    or-swap false true false = refl
+    or-swap false false true = refl
+    or-swap false false false = refl
+
+-- ---- loops
+
+-- a table of n entries, the first i of them those of f
+pub record Filled (n : ℕ) (f : ℕ → ℕ) (l : List ℕ) (i : ℕ) : Type 0 where
+  pub within : i ≤ n
+  pub long : length l ≡ n
+  pub right : (j : ℕ) → j < i → getD l j 0 ≡ f j
+
+pub filled-none : {n : ℕ} {f : ℕ → ℕ} {l : List ℕ} → length l ≡ n → Filled n f l 0
+filled-none e = record { within = omega arith; long = e; right = λ j h. absurd (not-suc-le-zero h) }
+
+pub filled-turn : {n : ℕ} {f : ℕ → ℕ} {l : List ℕ} {i v : ℕ} → Filled n f l i → i < n → v ≡ f i → Filled n f (set l i v) (i + 1)
+filled-turn {n} {f} {l} {i} {v} h b e = record {
+  within = omega arith;
+  long = length-set l i v ∙ h .long;
+  right = below-more _ _
+      (λ j q. getD-set-other l i j v 0 (λ p. lt-irrefl i (let z : i < i = omega arith in z)) ∙ h .right j q)
+      (getD-set-same l i v 0 (let z : i < length l = omega (arith, h .long) in z) ∙ e);
+}
+
+pub filled-all : {n : ℕ} {f : ℕ → ℕ} {l : List ℕ} {i : ℕ} → Filled n f l i → n ≤ i → l ≡ tabulate n f
+filled-all {n} {f} {l} {i} h b = tabulated n f l 0 (h .long) (λ j q. h .right j (let z : j < i = omega arith in z))
+
+-- a number that has followed g up to i, on the way to n
+pub record Reached (n : ℕ) (g : ℕ → ℕ) (s i : ℕ) : Type 0 where
+  pub within : i ≤ n
+  pub right : s ≡ g i
+
+pub reached-all : {n : ℕ} {g : ℕ → ℕ} {s i : ℕ} → Reached n g s i → n ≤ i → s ≡ g n
+reached-all {n} {g} h b = h .right ∙ ap g (le-antisymm (h .within) b)
+
+pub reached-turn : {n : ℕ} {g : ℕ → ℕ} {s i r : ℕ} → Reached n g s i → i < n → r ≡ g (suc i) → Reached n g r (i + 1)
+reached-turn {n} {g} {s} {i} h b e = record { within = omega arith; right = e ∙ ap g (sym (add-one i)) }
+
+-- one turn of a loop that changes the number by `op` and `a` where a test says so
+pub tested-turn : (op : ℕ → ℕ → ℕ) (a : ℕ) (t : Bool) {n : ℕ} {g : ℕ → ℕ} {s i r : ℕ} → Reached n g s i → i < n
+    → g (suc i) ≡ cond t (op (g i) a) (g i) → ((t ≡ true) × (r ≡ op s a)) ⊎ ((t ≡ false) × (r ≡ s)) → Reached n g r (i + 1)
+tested-turn op a t {n} {g} {s} {i} {r} h b e w = record {
+  within = omega arith;
+  right = ⊎-elim
+      (λ (x : (t ≡ true) × (r ≡ op s a)). x .1 ∙ ap (λ (y : ℕ). op y a) (h .right) ∙ sym (cond-true t _ _ (x .0)))
+      (λ (x : (t ≡ false) × (r ≡ s)). x .1 ∙ h .right ∙ sym (cond-false t _ _ (x .0))) w
+      ∙ sym e ∙ ap g (sym (add-one i));
+}
+
+-- a set that is collected by a test
+abbrev pub Collected : ℕ → (ℕ → Bool) → ℕ → ℕ → Type 0
+Collected n f s i = Reached n (λ k. collect k f) s i
+
+pub collected-none : {n : ℕ} (f : ℕ → Bool) → Collected n f 0 0
+unfolding collect
+collected-none f = record { within = omega arith; right = refl }
+
+pub collected-turn : {n : ℕ} (f : ℕ → Bool) {s i r : ℕ} {t : Bool} → Collected n f s i → i < n → t ≡ f i
+    → r ≡ includingIf s i t → Collected n f r (i + 1)
+collected-turn {n} f {s} {i} {r} {t} h b ht hr = record { within = omega arith; right = collect-turn f i s r t (h .right) ht hr }
+
+-- ---- climbing from a unit: what was met and what is still above make up the ancestors
+
+pub ancestors-below : (k : ℕ) (ps : List ℕ) (u : ℕ) → ancestorsWithin k ps u < 2 ^ 32
+unfolding ancestorsWithin
+ancestors-below zero ps u = pow-pos 32
+ancestors-below (suc k) ps u =
+    by-cases (decLt u 32)
+    (λ (h : u < 32). rw (lt-ltb u 32 h) (including-below _ u (ancestors-below k ps (parent ps u))))
+    (λ (h : u < 32 → ⊥). rw (le-ltb u 32 (omega arith)) (pow-pos 32))
+
+-- nothing is above what is no unit
+pub no-ancestors : (k : ℕ) (ps : List ℕ) (u : ℕ) → 32 ≤ u → ancestorsWithin k ps u ≡ 0
+unfolding ancestorsWithin
+no-ancestors zero ps u h = refl
+no-ancestors (suc k) ps u h = rw (le-ltb u 32 h)
+
+pub record Climbed (ps : List ℕ) (unit s u left : ℕ) : Type 0 where
+  pub bounded : s < 2 ^ 32
+  pub right : union s (ancestorsWithin left ps u) ≡ ancestors ps unit
+
+pub climbed-none : (ps : List ℕ) (u : ℕ) → Climbed ps u 0 u 32
+unfolding union ancestors
+climbed-none ps u = record { bounded = pow-pos 32; right = or-zero-l (ancestorsWithin 32 ps u) }
+
+-- nothing is left above
+pub climbed-all : {ps : List ℕ} {unit s u left : ℕ} → Climbed ps unit s u left → ancestorsWithin left ps u ≡ 0 → s ≡ ancestors ps unit
+unfolding union
+climbed-all {ps} {unit} {s} {u} {left} h e = sym (or-zero-r s) ∙ ap (union s) (sym e) ∙ h .right
+
+pub climbed-turn : {ps : List ℕ} {unit s u left r : ℕ} → Climbed ps unit s u left → 0 < left → u < 32 → u < length ps → r ≡ including s u
+    → Climbed ps unit r (getD ps u 0) (left - 1)
+unfolding ancestorsWithin parent
+climbed-turn {ps} {unit} {s} {u} {left} {r} h b l m e =
+    let k : suc (left - 1) ≡ left = omega arith in
+    let rest : ℕ = ancestorsWithin (left - 1) ps (getD ps u 0) in
+    let step : ancestorsWithin left ps u ≡ including rest u =
+    ap (λ (n : ℕ). ancestorsWithin n ps u) (sym k) ∙ simp (lt-ltb u 32 l, getD-any ps u 255 0 m) in
+    record {
+      bounded = subst (λ (x : ℕ). x < 2 ^ 32) (sym e) (including-below s u (h .bounded));
+      right =
+          ap (λ (x : ℕ). union x rest) e ∙ sym (including-passes s rest u (h .bounded) (ancestors-below (left - 1) ps (getD ps u 0)))
+          ∙ ap (union s) (sym step) ∙ h .right;
+    }
+
+-- ---- refusals
+
+-- the forest stays where nothing is refused
+pub roots-or : (l ps : List ℕ) → orRoots l ps ≡ cond (eqb (length l) 0) ps (tabulate 32 (λ u. 255))
+unfolding orRoots
+roots-or [] ps = refl
+roots-or (x ∷ l) ps = sym (cond-false _ _ _ (eqb·suc-zero (length l)))
+
+-- the rest counts where the groups are refused for nothing
+pub groups-rest : (n c : ℕ) (gs rest l : List ℕ) → l ≡ groupsRefusal n c gs []
+    → groupsRefusal n c gs rest ≡ cond (eqb (length l) 0) rest l
+unfolding groupsRefusal refuse
+groups-rest n c gs rest l e =
+    go (badCounts n c) (not (eqb (emptyGroups c gs) 0)) (not (eqb (outsideGroups n gs) 0))
+    ∙ ap (λ (x : List ℕ). cond (eqb (length x) 0) rest x) (sym e)
+  where
+    first : Bool → Bool → Bool → List ℕ → List ℕ
+    first a b d r = refuse a (5 ∷ 0 ∷ []) (refuse b (4 ∷ 0 ∷ []) (refuse d (6 ∷ 0 ∷ []) r))
+
+    go : (a b d : Bool) → first a b d rest ≡ cond (eqb (length (first a b d [])) 0) rest (first a b d [])
+    go true b d = refl
+    go false true d = refl
+    go false false true = refl
+    go false false false = refl

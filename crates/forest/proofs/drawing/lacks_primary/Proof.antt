@@ -1,0 +1,34 @@
+use borrow.Author.Needs.{needs}
+use borrow.Author.Tests.{lt-ltb, le-ltb}
+use Rattle.forest.specs.Forest.{hasPrimary, lacksPrimary}
+use Rattle.forest.proofs.Shared.{getD-beyond, not-ltb, no-primary}
+use Rattle.forest.proofs.drawing.lacks_primary.Statement.{statement}
+use Rattle.forest.proofs.drawing.lacks_primary.Tie as tie
+
+returns : tie.Need-returns
+unfolding lacksPrimary
+returns c = simp (le-ltb _ _ (c .if1 .taken))
+
+returns-2 : tie.Need-returns-2
+unfolding lacksPrimary hasPrimary
+returns-2 c =
+    let args = c .before .before .args in
+    simp (lt-ltb _ _ (c .before .if1 .left), getD-beyond (args .t1) (args .i) 0 (search needs), no-primary)
+
+mul-primary : tie.Need-mul-primary
+mul-primary c = search needs
+
+array-read-primary : tie.Need-array-read-primary
+array-read-primary c = search needs
+
+primary-requires : tie.Need-primary-requires
+primary-requires c κs = search needs
+
+returns-3 : tie.Need-returns-3
+unfolding lacksPrimary hasPrimary
+returns-3 c = rw (lt-ltb _ _ (c .before .before .if1 .left), ← c .primary .ensures) (not-ltb (c .primary .result) 32)
+
+pub lacks-primary-spec : {M : Type 1} → statement M
+lacks-primary-spec =
+    tie.close
+    (tie.spec returns returns-2 mul-primary array-read-primary primary-requires returns-3)

@@ -1,0 +1,50 @@
+use borrow.Author.Needs.{needs}
+use Prim.Native.Nat.{_-_}
+use Rattle.forest.specs.Calls.{emptyAt, emptyGroups}
+use Rattle.forest.proofs.Shared.{Collected, collected-none, collected-turn, reached-all}
+use Rattle.forest.proofs.groups.empty_groups.Statement.{statement}
+use Rattle.forest.proofs.groups.empty_groups.Tie as tie
+
+abbrev Inv-loop : tie.InvT-loop
+Inv-loop groups count set₀ i₀ set i = Collected 24 (emptyAt count groups) set i
+
+abbrev μ-loop : tie.MeasureT-loop
+μ-loop groups count set₀ i₀ set i = 24 - i
+
+loop-holds : tie.Need-loop-holds Inv-loop μ-loop
+loop-holds c = collected-none _
+
+empty-at-requires : tie.Need-empty-at-requires Inv-loop μ-loop
+empty-at-requires c κs = search needs
+
+including-if-requires : tie.Need-including-if-requires Inv-loop μ-loop
+including-if-requires c κs = search needs
+
+add-i : tie.Need-add-i Inv-loop μ-loop
+add-i c = search needs
+
+loop-less : tie.Need-loop-less Inv-loop μ-loop
+loop-less c = search needs
+
+loop-again : tie.Need-loop-again Inv-loop μ-loop
+loop-again c =
+    collected-turn _ (c .before .before .before .loop .inv) (c .before .before .loop-test .taken)
+    (c .before .empty-at .ensures) (c .including-if .ensures)
+
+returns : tie.Need-returns Inv-loop μ-loop
+unfolding emptyGroups
+returns c = reached-all (c .before .loop .inv) (c .loop-test .left)
+
+pub empty-groups-spec : {M : Type 1} → statement M
+empty-groups-spec =
+    tie.close
+    (tie.spec
+    Inv-loop
+    μ-loop
+    loop-holds
+    empty-at-requires
+    including-if-requires
+    add-i
+    loop-less
+    loop-again
+    returns)

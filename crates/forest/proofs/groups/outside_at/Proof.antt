@@ -1,0 +1,36 @@
+use borrow.Author.Needs.{needs}
+use Rattle.forest.specs.Calls.{outsideAt}
+use Rattle.forest.proofs.Shared.{getD-beyond, no-difference}
+use Rattle.forest.proofs.groups.outside_at.Statement.{statement}
+use Rattle.forest.proofs.groups.outside_at.Tie as tie
+
+returns : tie.Need-returns
+unfolding outsideAt
+returns c = simp (getD-beyond (c .before .args .t2) (c .before .args .i) 0 (search needs), no-difference)
+
+mul-difference : tie.Need-mul-difference
+mul-difference c = search needs
+
+array-read-difference : tie.Need-array-read-difference
+array-read-difference c = search needs
+
+below-requires : tie.Need-below-requires
+below-requires c κs = search needs
+
+difference-requires : tie.Need-difference-requires
+difference-requires c κs = search needs
+
+returns-2 : tie.Need-returns-2
+unfolding outsideAt
+returns-2 c = rw (c .difference .ensures, c .before .below .ensures)
+
+pub outside-at-spec : {M : Type 1} → statement M
+outside-at-spec =
+    tie.close
+    (tie.spec
+    returns
+    mul-difference
+    array-read-difference
+    below-requires
+    difference-requires
+    returns-2)

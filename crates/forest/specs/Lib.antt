@@ -1,0 +1,5 @@
+pub mod Tables
+pub mod Forest
+pub mod Build
+pub mod Calls
+pub mod Layout

@@ -121,7 +121,8 @@ fn judge_parents(units: usize, groups: [u32; 24], count: usize, parents: [u8; 32
     }
     let bad = without_primary(groups, count, parents);
     if bad != 0 {
-        return Verdict::NoPrimary(sets::lowest(bad));
+        let first = sets::lowest(bad);
+        return Verdict::NoPrimary(first);
     }
     Verdict::Accepted
 }

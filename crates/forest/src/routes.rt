@@ -54,7 +54,8 @@ fn above_some(parents: [u8; 32], group: u32) -> u32
 pub fn primary(parents: [u8; 32], group: u32) -> usize
     ensures { λ r. ⌜ r ≡ primaryOf parents group ⌝ }
 {
-    sets::lowest(sets::intersection(group, above_every(parents, group)))
+    let every = above_every(parents, group);
+    sets::lowest(sets::intersection(group, every))
 }
 
 // u is below the primary and among the units above some member.

@@ -1,46 +1,21 @@
 -- Ancestry in a forest: what `above` and `cyclicUnits` of the rules say, for every table of parents, and that the way up ends at a root.
--- Primaries and routes are in Routes.antt. Assumes nothing.
+-- Primaries and routes are in Primaries.antt. Assumes nothing.
 use mathlib.Core.Path.{_≡_, refl, sym, ap, subst, _∙_}
-use mathlib.Core.Logic.{_⊎_, inl, inr, ⊎-elim, by-cases}
-use mathlib.Core.Bool.{Bool, true, false, not, _&&_, _||_}
+use mathlib.Core.Logic.{_⊎_, inl, inr, ⊎-elim}
+use mathlib.Core.Bool.{true, false, _&&_, _||_}
 use mathlib.Core.List.{List}
 use Prim.Native.Nat.{ℕ, zero, suc, _^_, _≤_, _<_, zero-le, suc-le-suc}
-use native.Mathlib.Nat.{le-trans, le-refl, zero-lt-suc, le-of-eq}
+use native.Mathlib.Nat.{le-trans, zero-lt-suc, le-of-eq}
 use native.Mathlib.Omega.{arith}
-use native.Mathlib.Decide.{ℕ-discrete}
 use borrow.Author.Tests.{lt-ltb, eq-eqb, ltb-true, eqb-true}
 use lib.Dec.{ltb, eqb, lit≤}
 use lib.Pow.{pow-pos}
-use lib.Count.{ones, ones-ones}
-use Rattle.sets.specs.Sets.{member, difference, size, lowest, includingIf, collect, below}
-use Rattle.sets.proofs.Bools.{either, clash, not-true-false, and-left, and-right, and-both, or-left, or-right, or-cases, false-of-not, not-of-false}
-use Rattle.sets.proofs.Laws.{member-empty, member-including, member-difference, member-collect, member-below-set, lowest-of-some, not-empty}
-use Rattle.sets.proofs.Laws.{Subset, size-less, size-below, size-subset, size-positive, size-counts-ones, difference-below, including-below, below-below, below-is}
+use Rattle.sets.specs.Sets.{member, size, below}
+use Rattle.sets.proofs.Bools.{either, clash, not-true-false, and-left, and-right, and-both, or-left, or-right, or-cases}
+use Rattle.sets.proofs.Laws.{member-empty, member-including, member-below-set, collect-none, none-collect}
+use Rattle.sets.proofs.Laws.{Subset, same-or-more, size-less, size-below, size-subset, size-positive, size-below-set, including-below}
+use Rattle.forest.specs.Claims.{Above, itself, over, climb, Acyclic, Within}
 use Rattle.forest.specs.Forest.{parent, ancestorsWithin, ancestors, above, ownAncestor, cyclicUnits}
-
--- a is above u: u itself, or a is above u's parent (document 01: a unit is above itself, its children, their children and so on)
-pub data Above (ps : List ℕ) : ℕ → ℕ → Type 0 where
-  itself : {u : ℕ} → u < 32 → Above ps u u
-  over : {a u : ℕ} → u < 32 → Above ps a (parent ps u) → Above ps a u
-
--- k steps up from u
-unfoldable pub climb : List ℕ → ℕ → ℕ → ℕ
-climb ps zero u = u
-climb ps (suc k) u = climb ps k (parent ps u)
-
--- no unit is its own ancestor
-unfoldable pub Acyclic : List ℕ → Type 0
-Acyclic ps = (u : ℕ) → u < 32 → Above ps u (parent ps u) → ⊥
-
--- every parent is 255 or one of the n units, and what is no unit has 255
-pub record Within (n : ℕ) (ps : List ℕ) : Type 0 where
-  pub few : n ≤ 32
-  pub parents : (u : ℕ) → (parent ps u ≡ 255) ⊎ ((u < n) × (parent ps u < n))
-
--- p is a member of g and above every member
-pub record IsPrimary (ps : List ℕ) (g p : ℕ) : Type 0 where
-  pub inside : member g p ≡ true
-  pub every : (m : ℕ) → member g m ≡ true → Above ps p m
 
 -- ---- Above
 
@@ -57,24 +32,15 @@ unfolding Acyclic
 above-antisym acyclic (itself h) q = refl
 above-antisym acyclic (over {u = b} h p) q = absurd (acyclic b h (above-trans q p))
 
--- ---- sets
-
--- of two sets, the one inside the other, either the other is inside the one or it has more members
-same-or-more : (s t : ℕ) → Subset s t → t < 2 ^ 32 → Subset t s ⊎ (size s < size t)
-unfolding Subset
-same-or-more s t h b = by-cases (ℕ-discrete (difference t s) 0)
-    (λ (e : difference t s ≡ 0). inl (λ u m. ⊎-elim
-    (λ p. p)
-    (λ n. absurd (not-empty (difference t s) u (member-difference t s u ∙ and-both (member t u) _ m (not-of-false (member s u) n)) e))
-    (either (member s u))))
-    (λ n. inr (more (lowest (difference t s)) (lowest-of-some (difference t s) (difference-below 32 t s b) n)))
-  where
-    more : (u : ℕ) → (u < 32) × (member (difference t s) u ≡ true) → size s < size t
-    more u r =
-        let d = sym (member-difference t s u) ∙ r .1 in
-        size-less s t u h (r .0) (and-left (member t u) (not (member s u)) d) (false-of-not (member s u) (and-right (member t u) _ d))
-
 -- ---- `above` says whether a unit is above another
+
+pub ancestors-below : (k : ℕ) (ps : List ℕ) (u : ℕ) → ancestorsWithin k ps u < 2 ^ 32
+unfolding ancestorsWithin
+ancestors-below zero ps u = pow-pos 32
+ancestors-below (suc k) ps u = ⊎-elim
+    (λ (h : ltb u 32 ≡ true). simp h (including-below (ancestorsWithin k ps (parent ps u)) u (ancestors-below k ps (parent ps u))))
+    (λ (h : ltb u 32 ≡ false). simp h (pow-pos 32))
+    (either (ltb u 32))
 
 module _ (ps : List ℕ) where
   -- of the suc k lowest ancestors of u, the first is u and the others are the k lowest of its parent
@@ -155,19 +121,11 @@ module _ (ps : List ℕ) where
       (λ r. within-parent k u (r .0) a (r .2) (above-unit (within-sound (suc (suc k)) u a m) .0) (s (r .0) (r .1)))
       (within-source (suc k) u a m)
 
-  within-below : (k u : ℕ) → ancestorsWithin k ps u < 2 ^ 32
-  unfolding ancestorsWithin
-  within-below zero u = pow-pos 32
-  within-below (suc k) u = ⊎-elim
-      (λ (h : ltb u 32 ≡ true). simp h (including-below (ancestorsWithin k ps (parent ps u)) u (within-below k (parent ps u))))
-      (λ (h : ltb u 32 ≡ false). simp h (pow-pos 32))
-      (either (ltb u 32))
-
   -- each step up adds a unit until one adds none
   settled-or-one-more : (k u : ℕ) → k ≤ size (ancestorsWithin k ps u) → Settled k u ⊎ (k < size (ancestorsWithin (suc k) ps u))
   unfolding Settled
   settled-or-one-more k u l = ⊎-elim inl (λ m. inr (omega arith))
-      (same-or-more (ancestorsWithin k ps u) (ancestorsWithin (suc k) ps u) (within-mono k u) (within-below (suc k) u))
+      (same-or-more (ancestorsWithin k ps u) (ancestorsWithin (suc k) ps u) (within-mono k u) (ancestors-below (suc k) ps u))
 
   settled-or-more : (k u : ℕ) → Settled k u ⊎ (k < size (ancestorsWithin (suc k) ps u))
   settled-or-more zero u = settled-or-one-more zero u zero-le
@@ -180,17 +138,6 @@ module _ (ps : List ℕ) where
   unfolding above ancestors Settled Subset
   above-complete a u (itself h) = within-first 31 u u h refl
   above-complete a u (over h r) = settled u a (within-next 32 u a h (above-complete a (parent ps u) r))
-
--- ---- a set from a test is empty where nothing passes
-
-pub collect-none : (k : ℕ) (f : ℕ → Bool) → k ≤ 32 → collect k f ≡ 0 → (i : ℕ) → i < k → f i ≡ false
-collect-none k f h e i l = not-true-false (f i)
-    (λ t. not-empty (collect k f) i (member-collect k f i h ∙ and-both (ltb i k) (f i) (lt-ltb i k l) t) e)
-
-pub none-collect : (k : ℕ) (f : ℕ → Bool) → ((i : ℕ) → i < k → f i ≡ false) → collect k f ≡ 0
-unfolding collect includingIf
-none-collect zero f h = refl
-none-collect (suc k) f h = simp (h k (le-refl (suc k))) (none-collect k f (λ i l. h i (omega arith)))
 
 -- ---- no unit is its own ancestor
 
@@ -220,9 +167,6 @@ stays-within {ps = ps} w l (over {u = u} h r) = ⊎-elim
     (λ (e : parent ps u ≡ 255). absurd (omega (arith, above-unit r .1)))
     (λ q. stays-within w (q .1) r)
     (w .parents u)
-
-size-below-set : (n : ℕ) → n ≤ 32 → size (below n) ≡ n
-size-below-set n h = sym (size-counts-ones (below n) (below-below n)) ∙ ap ones (sym (below-is n h)) ∙ ones-ones n
 
 -- a unit has more ancestors than its parent
 fewer-ancestors : (ps : List ℕ) (u : ℕ) → Acyclic ps → u < 32 → size (ancestors ps (parent ps u)) < size (ancestors ps u)

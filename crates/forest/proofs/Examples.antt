@@ -3,7 +3,7 @@ use mathlib.Core.Path.{_≡_, refl}
 use mathlib.Core.Bool.{true}
 use Prim.Native.Nat.{ℕ}
 use mathlib.Core.List.{List, [], _∷_, _++_}
-use lib.ListN.{replicate, getD}
+use lib.ListN.{replicate}
 use lib.Count.{onesIn, trailingZeros}
 use Rattle.sets.specs.Sets.{member, single, below, union, intersection, difference, including, includingIf, size, lowest, collect}
 use Rattle.forest.specs.Tables.{tabulate}

@@ -1,22 +1,22 @@
 -- The build rule is document 01's: every unit is the root of exactly one laid part, and its parent is the unit that part is laid below.
 -- Assumes nothing.
 use mathlib.Core.Path.{_≡_, refl, sym, ap, subst, _∙_}
-use mathlib.Core.Logic.{_⊎_, inl, inr, ⊎-elim, by-cases}
-use mathlib.Core.Bool.{Bool, true, false, not, _&&_, cond, and-false}
+use mathlib.Core.Logic.{⊎-elim, by-cases}
+use mathlib.Core.Bool.{true, not, _&&_, cond, and-false}
 use mathlib.Core.List.{List}
 use Prim.Native.Nat.{ℕ, zero, suc, _+_, _-_, _≤_, _<_, _^_}
-use native.Mathlib.Nat.{le-refl, le-trans, le-of-suc-le-suc, not-suc-le-zero, lt-irrefl, lt-of-lt-of-le}
+use native.Mathlib.Nat.{le-trans, le-of-suc-le-suc, not-suc-le-zero, lt-irrefl, lt-of-lt-of-le}
 use native.Mathlib.Decide.{ℕ-discrete, decLt}
 use native.Mathlib.Omega.{arith}
 use lib.ListN.{getD}
 use lib.Dec.{ltb, eqb, lit≤}
-use borrow.Author.Tests.{lt-ltb, le-ltb, eq-eqb, ne-eqb, eqb-true, ltb-true}
+use borrow.Author.Tests.{lt-ltb, le-ltb, eq-eqb, ne-eqb, ltb-true}
 use Rattle.sets.specs.Sets.{member, excluding, size, below}
 use Rattle.sets.proofs.Bools.{either, clash, and-left, and-right, and-both, not-of-false, false-of-not, same-test, cond-true, cond-false}
-use Rattle.sets.proofs.Laws.{Subset, member-below, member-below-set, member-excluding, member-difference, member-collect, same-members, size-less, size-below, size-positive}
-use Rattle.forest.specs.Tables.{tabulate}
+use Rattle.sets.proofs.Laws.{Subset, member-below-set, member-excluding, member-difference, member-collect, same-members, size-less, size-below, size-positive}
 use Rattle.forest.specs.Forest.{parent}
 use Rattle.forest.specs.Build.{itself, holdsAt, groupsOf, setAside, component, root, parentWithin, builtParent, built, IsRoot, IsPart, Laid, whole, smaller}
+use Rattle.forest.specs.Claims.{RootOf, Same}
 use Rattle.forest.proofs.Tables.{getD-tabulate, getD-past}
 use Rattle.forest.proofs.Parts.{Table, Closed, place-below, joined-among, component-keeps, component-below, component-self, component-closed, component-joined, joined-component, component-same}
 use Rattle.forest.proofs.Roots.{root-is, root-unique, root-found}
@@ -201,14 +201,7 @@ module _ (n : ℕ) (gs : List ℕ) (bench : Bench n gs) where
 
   -- ---- every unit is the root of exactly one laid part
 
-  pub record RootOf (u : ℕ) : Type 0 where
-    pub part : ℕ
-    pub live : ℕ
-    pub top : ℕ
-    pub laid : Laid n gs part live top
-    pub is-root : IsRoot gs part u
-
-  find : (m : ℕ) {s live top : ℕ} (l : Laid n gs s live top) (u : ℕ) → size s ≤ m → member s u ≡ true → RootOf u
+  find : (m : ℕ) {s live top : ℕ} (l : Laid n gs s live top) (u : ℕ) → size s ≤ m → member s u ≡ true → RootOf n gs u
   find zero {s} l u h a = absurd (not-suc-le-zero (le-trans (size-positive s u (unit-small (laid-facts l .units u a)) a) h))
   find (suc m) {s} {live} {top} l u h a =
       let f = laid-facts l in
@@ -219,14 +212,8 @@ module _ (n : ℕ) (gs : List ℕ) (bench : Bench n gs) where
       (le-of-suc-le-suc (le-trans (smaller-size s live (root gs s) f (q .inside) u a k) h))
       (component-self gs (setAside gs live (root gs s)) (bench .table) u (unit-small (f .units u a))))
 
-  pub root-of : (u : ℕ) → u < n → RootOf u
+  pub root-of : (u : ℕ) → u < n → RootOf n gs u
   root-of u h = find 32 (whole-part u h) u (size-below (component gs (below 24) u)) (component-self gs (below 24) (bench .table) u (unit-small h))
-
-  -- two laid parts are the same: the units, the groups left and the unit above
-  pub record Same (s s′ live live′ top top′ : ℕ) : Type 0 where
-    pub parts : s ≡ s′
-    pub lives : live ≡ live′
-    pub tops : top ≡ top′
 
   same-depth : {s live top s′ live′ top′ : ℕ} (l : Laid n gs s live top) (l′ : Laid n gs s′ live′ top′) (u : ℕ)
       → depth l ≡ depth l′ → member s u ≡ true → member s′ u ≡ true → Same s s′ live live′ top top′
@@ -310,7 +297,7 @@ module _ (n : ℕ) (gs : List ℕ) (bench : Bench n gs) where
       (λ b. getD-past 32 (λ v. cond (ltb v n) (builtParent gs v) 255) u 255 (omega arith))
 
   -- The rule in document 01's words: every unit is the root of exactly one laid part, and its parent is the unit that part is laid below.
-  pub rule-part : (u : ℕ) → u < n → (w : RootOf u) × (parent (built n gs) u ≡ w .top)
+  pub rule-part : (u : ℕ) → u < n → (w : RootOf n gs u) × (parent (built n gs) u ≡ w .top)
   rule-part u h = let w = root-of u h in (w, built-parent u h ∙ laid-parent (w .laid) u (w .is-root))
 
   -- ---- a unit in no group

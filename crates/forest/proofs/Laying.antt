@@ -1,7 +1,7 @@
 -- What the loops that lay out parts one by one keep, and what they come to. Assumes nothing.
 use mathlib.Core.Path.{_≡_, refl, sym, ap, subst, _∙_, fun-ext}
 use mathlib.Core.Logic.{⊎-elim, by-cases}
-use mathlib.Core.Bool.{Bool, true, false, not, _&&_, cond}
+use mathlib.Core.Bool.{true, false, not, cond}
 use mathlib.Core.List.{List}
 use Prim.Native.Nat.{ℕ, zero, suc, _≤_, _<_, _^_}
 use native.Mathlib.Nat.{le-refl, le-trans, le-of-suc-le-suc, not-suc-le-zero}
@@ -13,13 +13,12 @@ use lib.Dec.{ltb, eqb}
 use borrow.Author.Tests.{eq-eqb, ne-eqb, lt-ltb}
 use Rattle.sets.specs.Sets.{member, difference, excluding, size, lowest, below}
 use Rattle.sets.proofs.Bools.{either, clash, and-left, and-right, and-both, not-of-false, false-of-not, not-true-false, cond-true, cond-false}
-use Rattle.sets.proofs.Laws.{Subset, member-below, member-below-set, member-difference, member-empty, difference-below, excluding-below, size-subset, size-less, size-excluding, size-below, lowest-of-some, not-empty, not-member, below-below}
+use Rattle.sets.proofs.Laws.{Subset, member-below, member-below-set, member-difference, member-empty, difference-below, excluding-below, size-subset, size-less, size-excluding, size-below, lowest-of-some, not-empty, not-member, below-below, none-collect}
 use Rattle.forest.specs.Tables.{tabulate}
 use Rattle.forest.specs.Build.{holdsAt, groupsOf, degree, setAside, component, largestWithin, root, parentWithin, builtParent, built, IsRoot}
 use Rattle.forest.specs.Calls.{drawnAt, drawn}
 use Rattle.forest.specs.Layout.{degreeIn, Layable, LaidOut}
 use Rattle.forest.proofs.Tables.{tabulated, same-tables, getD-tabulate, getD-past}
-use Rattle.forest.proofs.Ancestry.{none-collect}
 use Rattle.forest.proofs.Parts.{Table, component-below, component-self, component-same}
 use Rattle.forest.proofs.Roots.{root-is}
 use Rattle.forest.proofs.Laid.{Bench, Facts, in-rest, rest-in, component-in-rest}

@@ -7,3 +7,5 @@ pub mod Parts
 pub mod Roots
 pub mod Laid
 pub mod Laying
+pub mod Accepted
+pub mod Theorems

@@ -1,17 +1,17 @@
 -- A component as the rule computes it is exactly a class of the relation "joined by a chain", over the live groups. Assumes nothing.
 use mathlib.Core.Path.{_≡_, refl, sym, ap, subst, _∙_}
 use mathlib.Core.Logic.{_⊎_, inl, inr, ⊎-elim, by-cases}
-use mathlib.Core.Bool.{Bool, true, false, not, _&&_, _||_, cond}
+use mathlib.Core.Bool.{Bool, true, false, not, _&&_, cond}
 use mathlib.Core.List.{List}
 use Prim.Native.Nat.{ℕ, zero, suc, _+_, _≤_, _<_, _^_}
-use native.Mathlib.Nat.{le-refl, le-trans, le-of-suc-le-suc, not-suc-le-zero, le-suc, lt-irrefl}
+use native.Mathlib.Nat.{lt-irrefl}
 use native.Mathlib.Decide.{ℕ-discrete, decLt, le-ind}
 use native.Mathlib.Omega.{arith}
 use lib.ListN.{length, getD, List·getD-eq-default}
-use lib.Dec.{ltb, eqb, lit<}
-use borrow.Author.Tests.{lt-ltb, eq-eqb, ne-eqb, eqb-true, ltb-true}
+use lib.Dec.{ltb, eqb}
+use borrow.Author.Tests.{lt-ltb, eq-eqb, ne-eqb, eqb-true}
 use Rattle.sets.specs.Sets.{member, single, union, intersection, size, lowest, below}
-use Rattle.sets.proofs.Bools.{either, clash, and-left, and-right, and-both, or-cases, or-left, or-right, not-of-false, false-of-not, same-test, cond-true, cond-false}
+use Rattle.sets.proofs.Bools.{clash, and-left, and-right, and-both, or-cases, or-left, or-right, not-of-false, false-of-not, same-test, cond-true}
 use Rattle.sets.proofs.Laws.{Subset, member-union, member-intersection, member-single, member-empty, member-below, member-below-set, same-members, union-below, single-below, size-grows, size-below, size-positive, not-empty, intersection-below, lowest-of-some}
 use Rattle.forest.specs.Build.{Joined, itself, together, chain, absorbed, spread, rounds, component}
 

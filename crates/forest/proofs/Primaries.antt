@@ -14,10 +14,10 @@ use lib.ListN.{getD}
 use Rattle.sets.specs.Sets.{member, intersection, lowest}
 use Rattle.sets.proofs.Bools.{either, clash, not-true-false, and-left, and-right, and-both, or-left, or-right, or-cases, false-of-not, not-of-false}
 use Rattle.sets.proofs.Laws.{member-empty, member-intersection, member-union, member-collect, member-below, member-below-set}
-use Rattle.sets.proofs.Laws.{intersection-below, below-is, lowest-least, lowest-of-some}
+use Rattle.sets.proofs.Laws.{intersection-below, below-is, lowest-least, lowest-of-some, collect-none, none-collect}
 use Rattle.forest.specs.Forest.{parent, ancestors, above, aboveEvery, aboveSome, primary, hasPrimary, onRoute, route, lacksPrimary, withoutPrimary}
-use Rattle.forest.proofs.Ancestry.{Above, itself, over, Acyclic, IsPrimary, above-unit, above-trans, above-antisym}
-use Rattle.forest.proofs.Ancestry.{above-sound, above-complete, collect-none, none-collect}
+use Rattle.forest.proofs.Ancestry.{above-unit, above-trans, above-antisym, above-sound, above-complete}
+use Rattle.forest.specs.Claims.{Above, itself, over, Acyclic, IsPrimary, OnWay}
 
 -- ---- primaries
 
@@ -103,42 +103,40 @@ some-complete (suc k) ps g a m l i r = some-turn k ps g a ∙ by-cases (ℕ-disc
     (and-both (member g k) (above ps a k) (rw e at i) (above-complete ps a k (rw e at r))))
     (λ (n : m ≡ k → ⊥). or-left _ (member g k && above ps a k) (some-complete k ps g a m (omega arith) i r))
 
-pub on-route : (ps : List ℕ) (g u : ℕ) → g < 2 ^ 32 → member (route ps g) u ≡ true
-    → (Above ps (primary ps g) u) × ((m : ℕ) × (member g m ≡ true) × Above ps u m)
+pub on-route : (ps : List ℕ) (g u : ℕ) → member (route ps g) u ≡ true → OnWay ps g (primary ps g) u
 unfolding route onRoute
-on-route ps g u b h =
-    let both = and-right (ltb u 32) _ (sym (member-collect 32 (onRoute ps (primary ps g) (aboveSome 32 ps g)) u (lit≤ tt)) ∙ h) in (
-      above-sound ps (primary ps g) u (and-left (above ps (primary ps g) u) _ both),
-      some-sound 32 ps g u (and-right (above ps (primary ps g) u) _ both),
-    )
+on-route ps g u h =
+    let both = and-right (ltb u 32) _ (sym (member-collect 32 (onRoute ps (primary ps g) (aboveSome 32 ps g)) u (lit≤ tt)) ∙ h) in record {
+      below-primary = above-sound ps (primary ps g) u (and-left (above ps (primary ps g) u) _ both);
+      member-below = some-sound 32 ps g u (and-right (above ps (primary ps g) u) _ both);
+    }
 
-pub route-has : (ps : List ℕ) (g u m : ℕ) → g < 2 ^ 32 → Above ps (primary ps g) u → member g m ≡ true → Above ps u m
-    → member (route ps g) u ≡ true
+pub route-has : (ps : List ℕ) (g u : ℕ) → OnWay ps g (primary ps g) u → member (route ps g) u ≡ true
 unfolding route onRoute
-route-has ps g u m b top i r =
+route-has ps g u w =
+    let top = w .below-primary in
+    let m = w .member-below in
     member-collect 32 (onRoute ps (primary ps g) (aboveSome 32 ps g)) u (lit≤ tt)
     ∙ and-both (ltb u 32) _ (lt-ltb u 32 (above-unit top .1))
-    (and-both (above ps (primary ps g) u) _ (above-complete ps (primary ps g) u top) (some-complete 32 ps g u m (above-unit r .1) i r))
+    (and-both (above ps (primary ps g) u) _ (above-complete ps (primary ps g) u top) (some-complete 32 ps g u (m .0) (above-unit (m .2) .1) (m .1) (m .2)))
 
 pub members-on-route : (ps : List ℕ) (g m : ℕ) → g < 2 ^ 32 → hasPrimary ps g ≡ true → member g m ≡ true → member (route ps g) m ≡ true
 members-on-route ps g m b h i =
     let top = primary-is ps g b h .every m i in
-    route-has ps g m m b top i (itself (above-unit top .1))
-
-pub primary-on-route : (ps : List ℕ) (g : ℕ) → g < 2 ^ 32 → hasPrimary ps g ≡ true → member (route ps g) (primary ps g) ≡ true
-primary-on-route ps g b h = members-on-route ps g (primary ps g) b h (primary-is ps g b h .inside)
+    route-has ps g m (record { below-primary = top; member-below = (m, i, itself (above-unit top .1)) })
 
 -- below a unit and not it: so is the parent
 parent-below : {ps : List ℕ} {a u : ℕ} → Above ps a u → (u ≡ a → ⊥) → (u < 32) × Above ps a (parent ps u)
 parent-below (itself h) n = absurd (n refl)
 parent-below (over h r) n = (h, r)
 
-pub parent-on-route : (ps : List ℕ) (g u : ℕ) → g < 2 ^ 32 → member (route ps g) u ≡ true → (u ≡ primary ps g → ⊥)
-    → member (route ps g) (parent ps u) ≡ true
-parent-on-route ps g u b h n =
-    let r = on-route ps g u b h in
-    let p = parent-below (r .0) n in
-    route-has ps g (parent ps u) (r .1 .0) b (p .1) (r .1 .1) (above-trans (over (p .0) (itself (above-unit (p .1) .1))) (r .1 .2))
+pub parent-on-route : (ps : List ℕ) (g u : ℕ) → member (route ps g) u ≡ true → (u ≡ primary ps g → ⊥) → member (route ps g) (parent ps u) ≡ true
+parent-on-route ps g u h n =
+    let w = on-route ps g u h in
+    let m = w .member-below in
+    let p = parent-below (w .below-primary) n in
+    route-has ps g (parent ps u)
+    (record { below-primary = p .1; member-below = (m .0, m .1, above-trans (over (p .0) (itself (above-unit (p .1) .1))) (m .2)) })
 
 -- ---- every group has a primary
 

@@ -1,16 +1,16 @@
 -- The root of a part is its unit in most groups of the whole bench, among equals the lowest, and there is only one. Assumes nothing.
-use mathlib.Core.Path.{_≡_, refl, sym, ap, subst, _∙_}
+use mathlib.Core.Path.{_≡_, refl, sym, subst}
 use mathlib.Core.Logic.{_⊎_, inl, inr, ⊎-elim, by-cases}
-use mathlib.Core.Bool.{Bool, true, false, _&&_, _||_, cond, or-true}
+use mathlib.Core.Bool.{true, false, _&&_, _||_, cond, or-true}
 use mathlib.Core.List.{List}
 use Prim.Native.Nat.{ℕ, zero, suc, _≤_, _<_, _^_}
-use native.Mathlib.Nat.{le-refl, le-trans, le-of-suc-le-suc, not-suc-le-zero, le-suc, lt-irrefl, lt-suc-self}
-use native.Mathlib.Decide.{ℕ-discrete, decLt}
+use native.Mathlib.Nat.{le-refl, le-trans, not-suc-le-zero, le-suc, lt-irrefl, lt-suc-self}
+use native.Mathlib.Decide.{ℕ-discrete}
 use native.Mathlib.Omega.{arith}
 use lib.Dec.{ltb, eqb}
-use borrow.Author.Tests.{lt-ltb, le-ltb, eq-eqb, ne-eqb, eqb-true, eqb-false, ltb-true, ltb-false}
+use borrow.Author.Tests.{eq-eqb, ne-eqb, ltb-true, ltb-false}
 use Rattle.sets.specs.Sets.{member}
-use Rattle.sets.proofs.Bools.{either, clash, and-left, and-right, or-cases, cond-true, cond-false}
+use Rattle.sets.proofs.Bools.{either, clash, cond-true, cond-false}
 use Rattle.sets.proofs.Laws.{member-below}
 use Rattle.forest.specs.Build.{degree, betterOf, largestWithin, root, IsRoot}
 

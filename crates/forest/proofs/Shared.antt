@@ -23,6 +23,7 @@ use Rattle.sets.proofs.Laws.{union-below, intersection-below, difference-below,
 use Rattle.forest.specs.Tables.{tabulate}
 use Rattle.forest.specs.Forest.{parent, ancestorsWithin, ancestors, primary}
 use Rattle.forest.specs.Calls.{badCounts, emptyGroups, outsideGroups, refuse, groupsRefusal, orRoots}
+use Rattle.forest.proofs.Ancestry.{ancestors-below}
 use Rattle.forest.proofs.Tables.{tabulated, collect-turn}
 
 -- ---- entries of a list
@@ -140,14 +141,6 @@ pub collected-turn : {n : ℕ} (f : ℕ → Bool) {s i r : ℕ} {t : Bool} → C
 collected-turn {n} f {s} {i} {r} {t} h b ht hr = record { within = omega arith; right = collect-turn f i s r t (h .right) ht hr }
 
 -- ---- climbing from a unit: what was met and what is still above make up the ancestors
-
-pub ancestors-below : (k : ℕ) (ps : List ℕ) (u : ℕ) → ancestorsWithin k ps u < 2 ^ 32
-unfolding ancestorsWithin
-ancestors-below zero ps u = pow-pos 32
-ancestors-below (suc k) ps u =
-    by-cases (decLt u 32)
-    (λ (h : u < 32). rw (lt-ltb u 32 h) (including-below _ u (ancestors-below k ps (parent ps u))))
-    (λ (h : u < 32 → ⊥). rw (le-ltb u 32 (omega arith)) (pow-pos 32))
 
 -- nothing is above what is no unit
 pub no-ancestors : (k : ℕ) (ps : List ℕ) (u : ℕ) → 32 ≤ u → ancestorsWithin k ps u ≡ 0

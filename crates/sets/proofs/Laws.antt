@@ -3,17 +3,17 @@ use mathlib.Core.Path.{_≡_, refl, sym, ap, ap₂, subst, _∙_}
 use mathlib.Core.Logic.{_⊎_, inl, inr, ⊎-elim, by-cases}
 use mathlib.Core.Bool.{Bool, true, false, not, _&&_, _||_, cond, or-false, and-false, and-true}
 use Prim.Native.Nat.{ℕ, zero, suc, _+_, _-_, _*_, _/_, _%_, _^_, _≤_, _<_, min, max, zero-le, suc-le-suc}
-use native.Mathlib.Nat.{div-one, div-div-eq-div-mul, pow-suc, mul-comm, mod-lt, le-of-suc-le-suc, zero-lt-suc, not-suc-le-zero, lt-of-le-of-lt, le-trans, zero-div, one-mul, mod-eq-of-lt, le-suc, le-of-eq}
+use native.Mathlib.Nat.{div-one, div-div-eq-div-mul, pow-suc, mul-comm, mod-lt, le-of-suc-le-suc, zero-lt-suc, not-suc-le-zero, lt-of-le-of-lt, le-trans, zero-div, one-mul, mod-eq-of-lt, le-suc, le-of-eq, le-refl}
 use native.Mathlib.Omega.{arith}
 use native.Mathlib.Decide.{ℕ-discrete, decLt}
-use borrow.Author.Tests.{lt-ltb, le-ltb, eq-eqb, ne-eqb, eqb-true, eqb-false, ltb-true}
-use lib.Dec.{ltb, eqb, lit≤, eqb·zero-suc, eqb·suc-zero, eqb·suc-suc, leb·suc-suc, leb·zero}
+use borrow.Author.Tests.{lt-ltb, le-ltb, eq-eqb, ne-eqb, eqb-true, ltb-true}
+use lib.Dec.{ltb, eqb, lit≤, eqb·zero-suc, eqb·suc-zero, eqb·suc-suc, leb·suc-suc}
 use lib.Arith.{lt-one, lt-of-le-ne}
 use lib.Pow.{pow-pos, pow-mono, pow-lt}
-use lib.Bits.{bitAnd, bitOr, and-step, or-step, and-le-l, and-lt, or-lt}
-use lib.Count.{onesIn, ones, ones-step, trailingZeros, under}
+use lib.Bits.{bitAnd, bitOr, and-step, or-step, and-le-l, and-le-r, or-lt}
+use lib.Count.{onesIn, ones, ones-step, ones-ones, trailingZeros, under}
 use Rattle.sets.specs.Sets.{member, single, union, intersection, difference, including, excluding, size, lowest, includingIf, collect, below}
-use Rattle.sets.proofs.Bools.{either, clash, and-left, and-right, and-both, not-of-false, false-of-not, same-test, cond-true, cond-false}
+use Rattle.sets.proofs.Bools.{either, clash, and-left, and-right, and-both, not-of-false, false-of-not, not-true-false, same-test, cond-true, cond-false}
 
 -- ---- digits
 
@@ -167,6 +167,11 @@ intersection-below k s t hs = lt-of-le-of-lt (and-le-l s t) hs
 pub difference-below : (k s t : ℕ) → s < 2 ^ k → difference s t < 2 ^ k
 unfolding difference
 difference-below k s t hs = omega arith
+
+-- nothing of s is outside t
+pub difference-none : (s t : ℕ) → difference s t ≡ 0 → s ≤ t
+unfolding difference intersection
+difference-none s t e = omega (arith, and-le-r s t)
 
 pub single-below : (u : ℕ) → single u < 2 ^ 32
 unfolding single
@@ -391,16 +396,38 @@ lowest-of-some s h n =
 pub not-empty : (s u : ℕ) → member s u ≡ true → s ≡ 0 → ⊥
 not-empty s u m e = clash m (ap (λ (x : ℕ). member x u) e ∙ member-empty u)
 
+-- of two sets, the one inside the other, either the other is inside the one or it has more members
+pub same-or-more : (s t : ℕ) → Subset s t → t < 2 ^ 32 → Subset t s ⊎ (size s < size t)
+unfolding Subset
+same-or-more s t h b = by-cases (ℕ-discrete (difference t s) 0)
+    (λ (e : difference t s ≡ 0). inl (λ u m. ⊎-elim
+    (λ p. p)
+    (λ n. absurd (not-empty (difference t s) u (member-difference t s u ∙ and-both (member t u) _ m (not-of-false (member s u) n)) e))
+    (either (member s u))))
+    (λ n. inr (more (lowest (difference t s)) (lowest-of-some (difference t s) (difference-below 32 t s b) n)))
+  where
+    more : (u : ℕ) → (u < 32) × (member (difference t s) u ≡ true) → size s < size t
+    more u r =
+        let d = sym (member-difference t s u) ∙ r .1 in
+        size-less s t u h (r .0) (and-left (member t u) (not (member s u)) d) (false-of-not (member s u) (and-right (member t u) _ d))
+
 -- a set that has grown has more members
 pub size-grows : (s t : ℕ) → s < 2 ^ 32 → t < 2 ^ 32 → Subset s t → (s ≡ t → ⊥) → size s < size t
 unfolding Subset
-size-grows s t hs ht h n =
-    let rest = lowest-of-some (difference t s) (difference-below 32 t s ht) (λ e. n (same-members 32 s t hs ht (λ u b. same-test (member s u) (member t u) (h u) (back e u)))) in
-    let both = sym (member-difference t s (lowest (difference t s))) ∙ rest .1 in
-    size-less s t (lowest (difference t s)) h (rest .0) (and-left (member t (lowest (difference t s))) _ both)
-    (false-of-not (member s (lowest (difference t s))) (and-right (member t (lowest (difference t s))) _ both))
-  where
-    back : difference t s ≡ 0 → (u : ℕ) → member t u ≡ true → member s u ≡ true
-    back e u m = ⊎-elim (λ a. a)
-        (λ (f : member s u ≡ false). absurd (not-empty (difference t s) u (member-difference t s u ∙ and-both (member t u) (not (member s u)) m (not-of-false (member s u) f)) e))
-        (either (member s u))
+size-grows s t hs ht h n = ⊎-elim
+    (λ back. absurd (n (same-members 32 s t hs ht (λ u b. same-test (member s u) (member t u) (h u) (back u)))))
+    (λ l. l) (same-or-more s t h ht)
+
+-- ---- a set from a test is empty where nothing passes
+
+pub collect-none : (k : ℕ) (f : ℕ → Bool) → k ≤ 32 → collect k f ≡ 0 → (i : ℕ) → i < k → f i ≡ false
+collect-none k f h e i l = not-true-false (f i)
+    (λ t. not-empty (collect k f) i (member-collect k f i h ∙ and-both (ltb i k) (f i) (lt-ltb i k l) t) e)
+
+pub none-collect : (k : ℕ) (f : ℕ → Bool) → ((i : ℕ) → i < k → f i ≡ false) → collect k f ≡ 0
+unfolding collect includingIf
+none-collect zero f h = refl
+none-collect (suc k) f h = simp (h k (le-refl (suc k))) (none-collect k f (λ i l. h i (omega arith)))
+
+pub size-below-set : (n : ℕ) → n ≤ 32 → size (below n) ≡ n
+size-below-set n h = sym (size-counts-ones (below n) (below-below n)) ∙ ap ones (sym (below-is n h)) ∙ ones-ones n

@@ -1,7 +1,5 @@
 use borrow.Author.Needs.{needs}
 use mathlib.Core.Path.{_≡_, ap, _∙_}
-use mathlib.Core.List.{List}
-use Prim.Native.Nat.{ℕ}
 use Rattle.forest.specs.Build.{built}
 use Rattle.forest.specs.Calls.{drawn, counted, buildRefusal, buildParents}
 use Rattle.forest.proofs.Laying.{cut-layout}

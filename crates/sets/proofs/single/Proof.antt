@@ -1,5 +1,4 @@
 use borrow.Author.Needs.{needs}
-use mathlib.Core.Path.{sym}
 use Rattle.sets.specs.Sets.{single}
 use borrow.Author.Tests.{le-ltb}
 use Rattle.sets.proofs.Laws.{single-shift}

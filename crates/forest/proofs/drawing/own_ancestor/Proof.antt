@@ -2,7 +2,8 @@ use borrow.Author.Needs.{needs}
 use mathlib.Core.Path.{sym}
 use Rattle.sets.proofs.Laws.{not-member}
 use Rattle.forest.specs.Forest.{parent, ancestors, above, ownAncestor}
-use Rattle.forest.proofs.Shared.{getD-any, ancestors-below}
+use Rattle.forest.proofs.Ancestry.{ancestors-below}
+use Rattle.forest.proofs.Shared.{getD-any}
 use Rattle.forest.proofs.drawing.own_ancestor.Statement.{statement}
 use Rattle.forest.proofs.drawing.own_ancestor.Tie as tie
 

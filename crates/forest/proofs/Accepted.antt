@@ -1,0 +1,123 @@
+-- A built forest is always accepted: no unit is its own ancestor, and every group has a primary. Assumes nothing.
+use mathlib.Core.Path.{_≡_, refl, sym, ap, subst, _∙_}
+use mathlib.Core.Logic.{_⊎_, inl, inr, ⊎-elim, by-cases}
+use mathlib.Core.Bool.{true, false}
+use mathlib.Core.List.{List}
+use Prim.Native.Nat.{ℕ, zero, suc, _≤_, _<_}
+use native.Mathlib.Nat.{le-trans, le-of-eq, le-suc, le-of-suc-le-suc, not-suc-le-zero, lt-irrefl, lt-of-lt-of-le}
+use native.Mathlib.Decide.{ℕ-discrete, decLt}
+use native.Mathlib.Omega.{arith}
+use lib.ListN.{getD}
+use lib.Dec.{ltb}
+use borrow.Author.Tests.{lt-ltb}
+use Rattle.sets.specs.Sets.{member, size, below}
+use Rattle.sets.proofs.Bools.{either, clash, and-both}
+use Rattle.sets.proofs.Laws.{member-below-set, size-below, size-positive}
+use Rattle.forest.specs.Forest.{parent, hasPrimary}
+use Rattle.forest.specs.Claims.{Above, itself, over, Acyclic, Within, IsPrimary}
+use Rattle.forest.specs.Build.{setAside, component, root, built, IsRoot, Laid, whole, smaller}
+use Rattle.forest.proofs.Ancestry.{above-trans, above-unit}
+use Rattle.forest.proofs.Primaries.{has-primary}
+use Rattle.forest.proofs.Parts.{Closed, place-below, component-self, component-closed}
+use Rattle.forest.proofs.Roots.{root-is}
+use Rattle.forest.proofs.Laid.{Bench, live-left, laid-facts, depth, laid-depth, laid-parent, rest-part, smaller-size, whole-part, root-of, rule-part, built-parent, past-parent}
+
+-- what is no unit has no unit above it
+no-unit : {ps : List ℕ} {a u : ℕ} → Above ps a u → u ≡ 255 → ⊥
+no-unit x e = let b = above-unit x .1 in let z : 255 < 32 = subst (λ (y : ℕ). y < 32) e b in lt-irrefl 32 (omega arith)
+
+module _ (n : ℕ) (gs : List ℕ) (bench : Bench n gs) where
+  small : {u : ℕ} → u < n → u < 32
+  small h = lt-of-lt-of-le h (bench .few)
+
+  laid-unit : {s live top u : ℕ} → Laid n gs s live top → member s u ≡ true → u < n
+  laid-unit {u = u} l m = laid-facts n gs bench l .units u m
+
+  -- the parent of the root of a laid part
+  root-parent : {s live top r : ℕ} (l : Laid n gs s live top) → IsRoot gs s r → parent (built n gs) r ≡ top
+  root-parent {r = r} l q = built-parent n gs bench r (laid-unit l (q .inside)) ∙ laid-parent n gs bench l r q
+
+  -- ---- the root of a part is above all of it
+
+  root-above : (m : ℕ) {s live top : ℕ} (l : Laid n gs s live top) (r : ℕ) → IsRoot gs s r → (u : ℕ) → size s ≤ m → member s u ≡ true → Above (built n gs) r u
+  root-above zero {s} l r q u h a = absurd (not-suc-le-zero (le-trans (size-positive s u (small (laid-unit l a)) a) h))
+  root-above (suc m) {s} {live} l r q u h a =
+      let f = laid-facts n gs bench l in
+      by-cases (ℕ-discrete u r)
+      (λ e. subst (λ (x : ℕ). Above (built n gs) r x) (sym e) (itself (small (laid-unit l (q .inside)))))
+      (λ k.
+      let t : ℕ = component gs (setAside gs live r) u in
+      let l′ = smaller r l q (rest-part n gs bench s live r f (q .inside) u a k) in
+      let self = component-self gs (setAside gs live r) (bench .table) u (small (laid-unit l a)) in
+      let q′ = root-is gs t u (laid-facts n gs bench l′ .bounded) self in
+      above-trans
+      (over (small (laid-unit l′ (q′ .inside))) (subst (λ (x : ℕ). Above (built n gs) r x) (sym (root-parent l′ q′)) (itself (small (laid-unit l (q .inside))))))
+      (root-above m l′ (root gs t) q′ u (le-of-suc-le-suc (le-trans (smaller-size n gs bench s live r f (q .inside) u a k) h)) self))
+
+  -- ---- no unit is its own ancestor: a unit above another lies no deeper
+
+  no-deeper : {a u s live top s′ live′ top′ : ℕ} → Above (built n gs) a u → (la : Laid n gs s live top) → IsRoot gs s a
+      → (l : Laid n gs s′ live′ top′) → IsRoot gs s′ u → depth n gs bench la ≤ depth n gs bench l
+  unfolding depth
+  no-deeper (itself {u} h) la qa l q = le-of-eq (laid-depth n gs bench la l u qa q)
+  no-deeper (over h x) la qa (whole p) q = absurd (no-unit x (root-parent (whole p) q))
+  no-deeper (over h x) la qa (smaller {s} r l q′ p) q =
+      le-trans (no-deeper x la qa l (subst (λ (y : ℕ). IsRoot gs s y) (sym (root-parent (smaller r l q′ p) q)) q′)) (le-suc (depth n gs bench l))
+
+  own : {u s live top : ℕ} (l : Laid n gs s live top) → IsRoot gs s u → Above (built n gs) u (parent (built n gs) u) → ⊥
+  unfolding depth
+  own (whole p) q x = no-unit x (root-parent (whole p) q)
+  own (smaller {s} r l q′ p) q x =
+      lt-irrefl (depth n gs bench l) (no-deeper x (smaller r l q′ p) q l (subst (λ (y : ℕ). IsRoot gs s y) (sym (root-parent (smaller r l q′ p) q)) q′))
+
+  pub built-acyclic : Acyclic (built n gs)
+  unfolding Acyclic
+  built-acyclic u h x = by-cases (decLt u n)
+      (λ b. let w = root-of n gs bench u b in own (w .laid) (w .is-root) x)
+      (λ b. no-unit x (past-parent n gs bench u (omega arith)))
+
+  -- ---- every parent is a unit or none
+
+  top-unit : {s live top : ℕ} → Laid n gs s live top → (top ≡ 255) ⊎ (top < n)
+  top-unit (whole p) = inl refl
+  top-unit (smaller r l q p) = inr (laid-unit l (q .inside))
+
+  pub built-within : Within n (built n gs)
+  built-within = record {
+    few = bench .few;
+    parents = λ u. by-cases (decLt u n)
+        (λ b. let w = rule-part n gs bench u b in
+        ⊎-elim (λ e. inl (w .1 ∙ e)) (λ t. inr (b, subst (λ (x : ℕ). x < n) (sym (w .1)) t)) (top-unit (w .0 .laid)))
+        (λ b. inl (past-parent n gs bench u (omega arith)));
+  }
+
+  -- ---- every group has a primary: the root of the last part that holds all of it
+
+  -- a live group lies whole in the component of each of its units
+  whole-group : (live i v : ℕ) → member live i ≡ true → member (getD gs i 0) v ≡ true → (u : ℕ) → member (getD gs i 0) u ≡ true → member (component gs live v) u ≡ true
+  unfolding Closed
+  whole-group live i v a b u c =
+      let bound = small (bench .within i v b) in
+      component-closed gs live (bench .table) v bound i v u a b c (component-self gs live (bench .table) v bound)
+
+  group-primary : (m : ℕ) {s live top : ℕ} (l : Laid n gs s live top) (i v : ℕ) → size s ≤ m → member live i ≡ true → member (getD gs i 0) v ≡ true
+      → ((u : ℕ) → member (getD gs i 0) u ≡ true → member s u ≡ true) → (p : ℕ) × IsPrimary (built n gs) (getD gs i 0) p
+  group-primary zero {s} l i v h a b sub = absurd (not-suc-le-zero (le-trans (size-positive s v (small (laid-unit l (sub v b))) (sub v b)) h))
+  group-primary (suc m) {s} {live} l i v h a b sub =
+      let f = laid-facts n gs bench l in
+      let r : ℕ = root gs s in
+      let q = root-is gs s v (f .bounded) (sub v b) in
+      ⊎-elim
+      (λ (g : member (getD gs i 0) r ≡ true). (r, record { inside = g; every = λ u c. root-above 32 l r q u (size-below s) (sub u c) }))
+      (λ (g : member (getD gs i 0) r ≡ false).
+      let k : v ≡ r → ⊥ = λ e. clash b (ap (member (getD gs i 0)) e ∙ g) in
+      let left = live-left gs live r i a (λ c. clash c g) in
+      group-primary m (smaller r l q (rest-part n gs bench s live r f (q .inside) v (sub v b) k)) i v
+      (le-of-suc-le-suc (le-trans (smaller-size n gs bench s live r f (q .inside) v (sub v b) k) h)) left b (whole-group (setAside gs live r) i v left b))
+      (either (member (getD gs i 0) r))
+
+  pub built-primary : (i v : ℕ) → member (getD gs i 0) v ≡ true → hasPrimary (built n gs) (getD gs i 0) ≡ true
+  built-primary i v b =
+      let live : member (below 24) i ≡ true = member-below-set 24 i ∙ and-both (ltb i 32) (ltb i 24) (lt-ltb i 32 (let h = place-below gs (bench .table) i v b in omega arith)) (lt-ltb i 24 (place-below gs (bench .table) i v b)) in
+      let p = group-primary 32 (whole-part n gs bench v (bench .within i v b)) i v (size-below (component gs (below 24) v)) live b (whole-group (below 24) i v live b) in
+      has-primary (built n gs) (getD gs i 0) (p .0) (bench .table .bounded i) (p .1)

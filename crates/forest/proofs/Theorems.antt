@@ -1,0 +1,237 @@
+-- What holds of every unrefused `build` and `check`, over what the calls answer. docs/PROOFS.md leads here. Assumes nothing.
+use mathlib.Core.Path.{_≡_, refl, sym, ap, subst, _∙_}
+use mathlib.Core.Logic.{inl, inr, ⊎-elim, by-cases}
+use mathlib.Core.Bool.{Bool, true, false, not, _||_, cond, and-false, true≢false}
+use mathlib.Core.List.{List, [], _∷_}
+use Prim.Native.Nat.{ℕ, _≤_, _<_, _^_}
+use native.Mathlib.Nat.{lt-of-lt-of-le, lt-of-le-of-lt}
+use native.Mathlib.Decide.{ℕ-discrete, decLt}
+use native.Mathlib.Omega.{arith}
+use lib.ListN.{length, getD}
+use lib.Dec.{ltb, leb, eqb, lit≤}
+use borrow.Author.Tests.{lt-ltb, le-ltb, ltb-true, ltb-false, lt-leb, le-leb, eq-eqb, eqb-true, eqb-false, ne-eqb}
+use Rattle.sets.specs.Sets.{member, difference, lowest, below}
+use Rattle.sets.proofs.Bools.{either, clash, and-left, and-right, and-both, not-of-false, cond-false}
+use Rattle.sets.proofs.Laws.{member-difference, member-below-set, lowest-of-some, not-empty, below-below, difference-none, collect-none, none-collect}
+use Rattle.forest.specs.Forest.{parent, hasPrimary, cyclicUnits, withoutPrimary, accepted}
+use Rattle.forest.specs.Build.{builtParent, built}
+use Rattle.forest.specs.Calls.{countedAt, counted, drawnAt, drawn, badCounts, emptyAt, emptyGroups, outsideAt, outsideGroups, outsideParent, outsideParents, refuse, groupsRefusal, drawingRefusal, orRoots, buildRefusal, buildParents, checkRefusal, checkParents}
+use Rattle.forest.specs.Claims.{Within, AcceptedForest, LaidByRule}
+use Rattle.forest.proofs.Tables.{length-tabulate, getD-tabulate, getD-past, same-tables}
+use Rattle.forest.proofs.Shared.{no-difference, groups-rest}
+use Rattle.forest.proofs.Ancestry.{acyclic-of, of-acyclic, ends-at-root}
+use Rattle.forest.proofs.Primaries.{primary-is, primary-unique, on-route, route-has, members-on-route, parent-on-route, without-primary-none, none-without-primary}
+use Rattle.forest.proofs.Laid.{Bench, rule-part, laid-once, lonely-root, lonely-childless}
+use Rattle.forest.proofs.Accepted.{built-acyclic, built-within, built-primary}
+
+-- ---- what an unrefused input is
+
+refuse-none : (b : Bool) (x : ℕ) (xs rest : List ℕ) → refuse b (x ∷ xs) rest ≡ [] → (b ≡ false) × (rest ≡ [])
+unfolding refuse
+refuse-none true x xs rest e = absurd (true≢false (cc))
+refuse-none false x xs rest e = (refl, e)
+
+zero-set : (s : ℕ) → not (eqb s 0) ≡ false → s ≡ 0
+zero-set s h = eqb-true s 0 (⊎-elim (λ a. a) (λ (a : eqb s 0 ≡ false). absurd (clash (not-of-false (eqb s 0) a) h)) (either (eqb s 0)))
+
+-- the groups are good: 1 to 32 units, at most 24 groups, none empty, all members units
+pub record GoodGroups (n c : ℕ) (gs : List ℕ) : Type 0 where
+  pub some : 0 < n
+  pub few : n ≤ 32
+  pub count : c ≤ 24
+  pub bench : Bench n gs
+  pub filled : (i : ℕ) → i < c → (u : ℕ) × (member (getD gs i 0) u ≡ true)
+
+counts-good : (n c : ℕ) → badCounts n c ≡ false → (0 < n) × (n ≤ 32) × (c ≤ 24)
+unfolding badCounts
+counts-good n c h =
+    let z = or-none (eqb n 0 || ltb 32 n) (ltb 24 c) h in
+    let y = or-none (eqb n 0) (ltb 32 n) (z .0) in
+    let p = eqb-false n 0 (y .0) in
+    (pos n p, ltb-false 32 n (y .1), ltb-false 24 c (z .1))
+  where
+    or-none : (a b : Bool) → (a || b) ≡ false → (a ≡ false) × (b ≡ false)
+    or-none true b e = absurd (true≢false e)
+    or-none false b e = (refl, e)
+
+    pos : (m : ℕ) → (m ≡ 0 → ⊥) → 0 < m
+    pos m f = omega arith
+
+-- no member outside the units: a set of units
+inside-units : (n g : ℕ) → difference g (below n) ≡ 0 → (g < 2 ^ 32) × ((u : ℕ) → member g u ≡ true → u < n)
+inside-units n g e = (
+  lt-of-le-of-lt (difference-none g (below n) e) (below-below n),
+  λ u m. ⊎-elim
+      (λ (a : member (below n) u ≡ true). ltb-true u n (and-right (ltb u 32) (ltb u n) (sym (member-below-set n u) ∙ a)))
+      (λ (a : member (below n) u ≡ false). absurd (not-empty (difference g (below n)) u
+      (member-difference g (below n) u ∙ and-both (member g u) (not (member (below n) u)) m (not-of-false (member (below n) u) a)) e))
+      (either (member (below n) u)),
+)
+
+-- a place past the table is empty
+past-table : (c : ℕ) (gs : List ℕ) (i : ℕ) → 24 ≤ i → getD (counted c gs) i 0 ≡ 0
+unfolding counted
+past-table c gs i h = getD-past 24 (countedAt c gs) i 0 h
+
+counted-long : (c : ℕ) (gs : List ℕ) → length (counted c gs) ≡ 24
+unfolding counted
+counted-long c gs = length-tabulate 24 (countedAt c gs)
+
+groups-good : (n c : ℕ) (gs rest : List ℕ) → groupsRefusal n c (counted c gs) rest ≡ [] → GoodGroups n c (counted c gs) × (rest ≡ [])
+unfolding groupsRefusal emptyGroups emptyAt outsideGroups outsideAt
+groups-good n c gs rest e =
+    let five = refuse-none (badCounts n c) 5 _ _ e in
+    let four = refuse-none (not (eqb (emptyGroups c (counted c gs)) 0)) 4 _ _ (five .1) in
+    let six = refuse-none (not (eqb (outsideGroups n (counted c gs)) 0)) 6 _ _ (four .1) in
+    let counts = counts-good n c (five .0) in
+    let units : (i : ℕ) → difference (getD (counted c gs) i 0) (below n) ≡ 0 = λ i. by-cases (decLt i 24)
+    (λ b. zero-set _ (collect-none 24 (outsideAt n (counted c gs)) (lit≤ tt) (zero-set _ (six .0)) i b))
+    (λ b. ap (λ (g : ℕ). difference g (below n)) (past-table c gs i (omega arith)) ∙ no-difference (below n)) in (
+      record {
+        some = counts .0;
+        few = counts .1;
+        count = counts .2;
+        bench = record {
+          few = counts .1;
+          table = record { long = counted-long c gs; bounded = λ i. inside-units n _ (units i) .0 };
+          within = λ i u m. inside-units n _ (units i) .1 u m;
+        };
+        filled = λ i b.
+            let some = lowest-of-some (getD (counted c gs) i 0) (inside-units n _ (units i) .0)
+            (λ z. clash (and-both (ltb i c) (eqb (getD (counted c gs) i 0) 0) (lt-ltb i c b) (eq-eqb (getD (counted c gs) i 0) 0 z))
+            (collect-none 24 (emptyAt c (counted c gs)) (lit≤ tt) (zero-set _ (four .0)) i (lt-of-lt-of-le b (counts .2)))) in
+            (lowest (getD (counted c gs) i 0), some .1);
+      },
+      six .1,
+    )
+
+-- good groups are refused for nothing but what is left
+good-groups : (n c : ℕ) (gs rest : List ℕ) → groupsRefusal n c gs [] ≡ [] → groupsRefusal n c gs rest ≡ rest
+good-groups n c gs rest e = groups-rest n c gs rest [] (sym e)
+
+-- ---- what an unrefused drawing is
+
+parents-good : (n c : ℕ) (gs ps : List ℕ) → drawingRefusal n c gs ps ≡ [] → (outsideParents n ps ≡ 0) × (cyclicUnits ps ≡ 0) × (withoutPrimary c gs ps ≡ 0)
+unfolding drawingRefusal
+parents-good n c gs ps e =
+    let six = refuse-none (not (eqb (outsideParents n ps) 0)) 6 _ _ e in
+    let ten = refuse-none (not (eqb (cyclicUnits ps) 0)) 10 _ _ (six .1) in
+    let eleven = refuse-none (not (eqb (withoutPrimary c gs ps) 0)) 11 _ _ (ten .1) in
+    (zero-set _ (six .0), zero-set _ (ten .0), zero-set _ (eleven .0))
+
+good-parents : (n c : ℕ) (gs ps : List ℕ) → outsideParents n ps ≡ 0 → cyclicUnits ps ≡ 0 → withoutPrimary c gs ps ≡ 0 → drawingRefusal n c gs ps ≡ []
+unfolding drawingRefusal refuse
+good-parents n c gs ps six ten eleven = simp (six, ten, eleven)
+
+-- ---- what `build` answers
+
+built-answer : (n c : ℕ) (gs : List ℕ) → buildRefusal n c gs ≡ [] → buildParents n c gs ≡ built n (counted c gs)
+unfolding buildParents orRoots
+built-answer n c gs e = ap (λ (l : List ℕ). orRoots l (built n (counted c gs))) e
+
+-- the built forest is laid out by document 01's rule
+pub built-by-rule : (n c : ℕ) (gs : List ℕ) → buildRefusal n c gs ≡ [] → LaidByRule n (counted c gs) (buildParents n c gs)
+unfolding buildRefusal
+built-by-rule n c gs e =
+    let bench = groups-good n c gs [] e .0 .bench in
+    rw (built-answer n c gs e) (record {
+      root-of = rule-part n (counted c gs) bench;
+      once = λ u w w′. laid-once n (counted c gs) bench (w .laid) (w′ .laid) u (w .is-root) (w′ .is-root);
+      lonely = λ u h none. (lonely-root n (counted c gs) bench u h none, lonely-childless n (counted c gs) bench u h none);
+    })
+
+-- ---- a built forest is always accepted
+
+same-cut : (n : ℕ) (gs : List ℕ) → drawn n (built n gs) ≡ built n gs
+unfolding drawn drawnAt built
+same-cut n gs = same-tables 32 (drawnAt n (built n gs)) (λ u. cond (ltb u n) (builtParent gs u) 255)
+    (λ u b. ap (λ (x : ℕ). cond (ltb u n) x 255) (getD-tabulate 32 (λ v. cond (ltb v n) (builtParent gs v) 255) u 255 b) ∙ twice (ltb u n) (builtParent gs u))
+  where
+    twice : (b : Bool) (x : ℕ) → cond b (cond b x 255) 255 ≡ cond b x 255
+    twice true x = refl
+    twice false x = refl
+
+-- parents that are units or none are no refusal
+within-good : (n : ℕ) (ps : List ℕ) → Within n ps → outsideParents n ps ≡ 0
+unfolding outsideParents outsideParent
+within-good n ps h = none-collect 32 (outsideParent n ps) (λ u b. ⊎-elim
+    (λ (e : parent ps u ≡ 255). simp (eq-eqb (parent ps u) 255 e) (and-false (leb n (parent ps u))))
+    (λ w. simp (lt-leb n (parent ps u) (w .1)))
+    (h .parents u))
+
+built-refusal : (n c : ℕ) (gs : List ℕ) → GoodGroups n c gs → drawingRefusal n c gs (built n gs) ≡ []
+built-refusal n c gs good =
+    good-parents n c gs (built n gs) (within-good n (built n gs) (built-within n gs (good .bench))) (of-acyclic (built n gs) (built-acyclic n gs (good .bench)))
+    (none-without-primary c gs (built n gs) (λ i b l. let w = good .filled i b in built-primary n gs (good .bench) i (w .0) (w .1)))
+
+-- `check` accepts what `build` answers, and answers it unchanged
+pub build-accepted : (n c : ℕ) (gs : List ℕ) → buildRefusal n c gs ≡ []
+    → (checkRefusal n c gs (buildParents n c gs) ≡ []) × (checkParents n c gs (buildParents n c gs) ≡ buildParents n c gs)
+unfolding buildRefusal checkRefusal checkParents orRoots
+build-accepted n c gs e =
+    let good = groups-good n c gs [] e .0 in
+    let cut : drawn n (buildParents n c gs) ≡ built n (counted c gs) = ap (drawn n) (built-answer n c gs e) ∙ same-cut n (counted c gs) in
+    let none : checkRefusal n c gs (buildParents n c gs) ≡ [] =
+    good-groups n c (counted c gs) _ e ∙ ap (drawingRefusal n c (counted c gs)) cut ∙ built-refusal n c (counted c gs) good in
+    (none, ap (λ (l : List ℕ). orRoots l (drawn n (buildParents n c gs))) none ∙ cut ∙ sym (built-answer n c gs e))
+
+-- ---- an accepted forest
+
+past-drawn : (n : ℕ) (ps : List ℕ) (u : ℕ) → n ≤ u → parent (drawn n ps) u ≡ 255
+unfolding parent drawn drawnAt
+past-drawn n ps u h = by-cases (decLt u 32)
+    (λ b. getD-tabulate 32 (drawnAt n ps) u 255 b ∙ cond-false (ltb u n) (getD ps u 255) 255 (le-ltb u n h))
+    (λ b. getD-past 32 (drawnAt n ps) u 255 (omega arith))
+
+-- parents that are no refusal are units or none
+good-within : (n : ℕ) (ps : List ℕ) → n ≤ 32 → outsideParents n (drawn n ps) ≡ 0 → Within n (drawn n ps)
+unfolding outsideParents outsideParent
+good-within n ps few e = record {
+  few = few;
+  parents = λ u. by-cases (decLt u n)
+      (λ b. by-cases (ℕ-discrete (parent (drawn n ps) u) 255) (λ z. inl z)
+      (λ z. inr (
+        b,
+        by-cases (decLt (parent (drawn n ps) u) n) (λ l. l)
+            (λ l. absurd (clash
+            (and-both (leb n (parent (drawn n ps) u)) (not (eqb (parent (drawn n ps) u) 255)) (le-leb n (parent (drawn n ps) u) (omega arith))
+            (not-of-false (eqb (parent (drawn n ps) u) 255) (ne-eqb (parent (drawn n ps) u) 255 z)))
+            (collect-none 32 (outsideParent n (drawn n ps)) (lit≤ tt) e u (lt-of-lt-of-le b few)))),
+      )))
+      (λ b. inl (past-drawn n ps u (omega arith)));
+}
+
+pub check-accepted : (n c : ℕ) (gs ps : List ℕ) → checkRefusal n c gs ps ≡ [] → AcceptedForest n c (counted c gs) (checkParents n c gs ps)
+unfolding checkRefusal checkParents orRoots
+check-accepted n c gs ps e =
+    let both = groups-good n c gs (drawingRefusal n c (counted c gs) (drawn n ps)) e in
+    let good = both .0 in
+    let faultless = parents-good n c (counted c gs) (drawn n ps) (both .1) in
+    let within = good-within n ps (good .few) (faultless .0) in
+    let acyclic = acyclic-of (drawn n ps) (faultless .1) in
+    let bounded = good .bench .table .bounded in
+    let has : (i : ℕ) → i < c → hasPrimary (drawn n ps) (getD (counted c gs) i 0) ≡ true =
+    λ i b. without-primary-none c (counted c gs) (drawn n ps) (faultless .2) i b (lt-of-lt-of-le b (good .count)) in
+    subst (λ (l : List ℕ). AcceptedForest n c (counted c gs) (orRoots l (drawn n ps))) (sym e) (record {
+      within = within;
+      acyclic = acyclic;
+      ends = ends-at-root within acyclic;
+      primary-of = λ i b. primary-is (drawn n ps) (getD (counted c gs) i 0) (bounded i) (has i b);
+      unique = λ g p q. primary-unique acyclic;
+      way = λ g u. (on-route (drawn n ps) g u, route-has (drawn n ps) g u);
+      members = λ i u b m. members-on-route (drawn n ps) (getD (counted c gs) i 0) u (bounded i) (has i b) m;
+      parents = λ i u b m k. parent-on-route (drawn n ps) (getD (counted c gs) i 0) u m k;
+    })
+
+-- Where groups and parents are good, a drawing is accepted exactly when no unit is its own ancestor and every group has a primary.
+pub accepted-exactly : (n c : ℕ) (gs ps : List ℕ) → groupsRefusal n c (counted c gs) [] ≡ [] → outsideParents n (drawn n ps) ≡ 0
+    → (checkRefusal n c gs ps ≡ [] → accepted c (counted c gs) (drawn n ps) ≡ true) × (accepted c (counted c gs) (drawn n ps) ≡ true → checkRefusal n c gs ps ≡ [])
+unfolding checkRefusal accepted
+accepted-exactly n c gs ps e six = (
+  λ h.
+      let faultless = parents-good n c (counted c gs) (drawn n ps) (groups-good n c gs _ h .1) in
+      and-both (eqb (cyclicUnits (drawn n ps)) 0) (eqb (withoutPrimary c (counted c gs) (drawn n ps)) 0) (eq-eqb _ 0 (faultless .1)) (eq-eqb _ 0 (faultless .2)),
+  λ a. good-groups n c (counted c gs) _ e ∙ good-parents n c (counted c gs) (drawn n ps) six
+      (eqb-true _ 0 (and-left (eqb (cyclicUnits (drawn n ps)) 0) (eqb (withoutPrimary c (counted c gs) (drawn n ps)) 0) a))
+      (eqb-true _ 0 (and-right (eqb (cyclicUnits (drawn n ps)) 0) (eqb (withoutPrimary c (counted c gs) (drawn n ps)) 0) a)),
+)

@@ -1,0 +1,78 @@
+-- What is claimed of every unrefused `build` and `check`, in document 01's words, as relations. Definitions only; the proofs are in proofs/Theorems.antt.
+use mathlib.Core.Path.{_≡_}
+use mathlib.Core.Logic.{_⊎_}
+use Prim.Native.Nat.{ℕ, zero, suc, _≤_, _<_}
+use mathlib.Core.Bool.{true}
+use mathlib.Core.List.{List}
+use lib.ListN.{getD}
+use Rattle.sets.specs.Sets.{member}
+use Rattle.forest.specs.Forest.{parent, primary, route}
+use Rattle.forest.specs.Build.{IsRoot, Laid}
+
+-- a is above u: it is u itself, or is above u's parent
+pub data Above (ps : List ℕ) : ℕ → ℕ → Type 0 where
+  itself : {u : ℕ} → u < 32 → Above ps u u
+  over : {a u : ℕ} → u < 32 → Above ps a (parent ps u) → Above ps a u
+
+-- k steps up from u
+unfoldable pub climb : List ℕ → ℕ → ℕ → ℕ
+climb ps zero u = u
+climb ps (suc k) u = climb ps k (parent ps u)
+
+-- no unit is its own ancestor
+unfoldable pub Acyclic : List ℕ → Type 0
+Acyclic ps = (u : ℕ) → u < 32 → Above ps u (parent ps u) → ⊥
+
+-- there are at most 32 units, and every parent is 255 or one of the n units; what is no unit has 255
+pub record Within (n : ℕ) (ps : List ℕ) : Type 0 where
+  pub few : n ≤ 32
+  pub parents : (u : ℕ) → (parent ps u ≡ 255) ⊎ ((u < n) × (parent ps u < n))
+
+-- p is a member of g and above every member
+pub record IsPrimary (ps : List ℕ) (g p : ℕ) : Type 0 where
+  pub inside : member g p ≡ true
+  pub every : (m : ℕ) → member g m ≡ true → Above ps p m
+
+-- u is on the way of g: below the primary p and above a member
+pub record OnWay (ps : List ℕ) (g p u : ℕ) : Type 0 where
+  pub below-primary : Above ps p u
+  pub member-below : (m : ℕ) × (member g m ≡ true) × Above ps u m
+
+-- ps is an accepted forest of n units for the first c of the groups gs
+pub record AcceptedForest (n c : ℕ) (gs ps : List ℕ) : Type 0 where
+  pub within : Within n ps
+  -- no unit is its own ancestor, and climbing ends at a root within as many steps as there are units
+  pub acyclic : Acyclic ps
+  pub ends : (u : ℕ) → u < n → (k : ℕ) × (k < n) × (climb ps k u < n) × (parent ps (climb ps k u) ≡ 255)
+  -- every group has a primary, and only one
+  pub primary-of : (i : ℕ) → i < c → IsPrimary ps (getD gs i 0) (primary ps (getD gs i 0))
+  pub unique : (g p q : ℕ) → IsPrimary ps g p → IsPrimary ps g q → p ≡ q
+  -- the way is every unit on the paths from the primary down to the members
+  pub way : (g u : ℕ) → (member (route ps g) u ≡ true → OnWay ps g (primary ps g) u) × (OnWay ps g (primary ps g) u → member (route ps g) u ≡ true)
+  -- members are on the way, and so is the parent of every unit of the way but the primary
+  pub members : (i u : ℕ) → i < c → member (getD gs i 0) u ≡ true → member (route ps (getD gs i 0)) u ≡ true
+  pub parents : (i u : ℕ) → i < c → member (route ps (getD gs i 0)) u ≡ true → (u ≡ primary ps (getD gs i 0) → ⊥)
+      → member (route ps (getD gs i 0)) (parent ps u) ≡ true
+
+-- a laid part whose root is u
+pub record RootOf (n : ℕ) (gs : List ℕ) (u : ℕ) : Type 0 where
+  pub part : ℕ
+  pub live : ℕ
+  pub top : ℕ
+  pub laid : Laid n gs part live top
+  pub is-root : IsRoot gs part u
+
+-- two laid parts are the same: the units, the groups left and the unit above
+pub record Same (s s′ live live′ top top′ : ℕ) : Type 0 where
+  pub parts : s ≡ s′
+  pub lives : live ≡ live′
+  pub tops : top ≡ top′
+
+-- the forest ps on n units is laid out from the groups gs by document 01's rule
+pub record LaidByRule (n : ℕ) (gs ps : List ℕ) : Type 0 where
+  -- every unit is the root of a laid part, and its parent is the unit that part is laid below
+  pub root-of : (u : ℕ) → u < n → (w : RootOf n gs u) × (parent ps u ≡ w .top)
+  -- there is no other such part
+  pub once : (u : ℕ) (w w′ : RootOf n gs u) → Same (w .part) (w′ .part) (w .live) (w′ .live) (w .top) (w′ .top)
+  -- a unit in no group is a root without children
+  pub lonely : (u : ℕ) → u < n → ((i : ℕ) → member (getD gs i 0) u ≡ true → ⊥) → (parent ps u ≡ 255) × ((v : ℕ) → parent ps v ≡ u → ⊥)

@@ -103,7 +103,7 @@ module _ (n : ℕ) (gs : List ℕ) (bench : Bench n gs) where
 
   -- the rest of a part is closed over the groups left: no chain leads out of it
   module _ (s live r : ℕ) (f : Facts n gs s live) (rm : member s r ≡ true) where
-    root-small : r < 32
+    pub root-small : r < 32
     root-small = unit-small (f .units r rm)
 
     pub rest-closed : Closed gs (setAside gs live r) (excluding s r)
@@ -133,19 +133,23 @@ module _ (n : ℕ) (gs : List ℕ) (bench : Bench n gs) where
     pub rest-part : (u : ℕ) → member s u ≡ true → (u ≡ r → ⊥) → IsPart gs (setAside gs live r) (excluding s r) (component gs (setAside gs live r) u)
     rest-part u m k = component-part gs (setAside gs live r) (excluding s r) (bench .table) rest-closed rest-units u (rest-in s r u m k)
 
-    rest-component : {t : ℕ} (p : IsPart gs (setAside gs live r) (excluding s r) t) → t ≡ component gs (setAside gs live r) (p .unit)
+    pub rest-component : {t : ℕ} (p : IsPart gs (setAside gs live r) (excluding s r) t) → t ≡ component gs (setAside gs live r) (p .unit)
     rest-component p = part-component gs (setAside gs live r) (excluding s r) (bench .table) rest-closed rest-units p
 
   -- ---- laid parts
 
+  pub bench-part : (u : ℕ) → u < n → IsPart gs (below 24) (below n) (component gs (below 24) u)
+  bench-part u h = component-part gs (below 24) (below n) (bench .table) (all-closed (below 24)) (λ v m. unit-small (below-unit v m)) u (unit-below u h)
+
+  pub bench-component : {s : ℕ} (p : IsPart gs (below 24) (below n) s) → s ≡ component gs (below 24) (p .unit)
+  bench-component p = part-component gs (below 24) (below n) (bench .table) (all-closed (below 24)) (λ v m. unit-small (below-unit v m)) p
+
   pub whole-part : (u : ℕ) → u < n → Laid n gs (component gs (below 24) u) (below 24) 255
-  whole-part u h = whole (component-part gs (below 24) (below n) (bench .table) (all-closed (below 24)) (λ v m. unit-small (below-unit v m)) u (unit-below u h))
+  whole-part u h = whole (bench-part u h)
 
   pub laid-facts : {s live top : ℕ} → Laid n gs s live top → Facts n gs s live
   laid-facts (whole {s} p) =
-      subst (λ (x : ℕ). Facts n gs x (below 24))
-      (sym (part-component gs (below 24) (below n) (bench .table) (all-closed (below 24)) (λ v m. unit-small (below-unit v m)) p))
-      (component-facts (below 24) (p .unit) (below-unit (p .unit) (p .inside)))
+      subst (λ (x : ℕ). Facts n gs x (below 24)) (sym (bench-component p)) (component-facts (below 24) (p .unit) (below-unit (p .unit) (p .inside)))
   laid-facts (smaller {s} {live} {top} {t} r l q p) =
       let f = laid-facts l in
       let m = in-rest s r (p .unit) (root-small s live r f (q .inside)) (p .inside) in

@@ -16,12 +16,12 @@ use Rattle.sets.proofs.Laws.{member-difference, member-below-set, lowest-of-som
 use Rattle.forest.specs.Forest.{parent, hasPrimary, cyclicUnits, withoutPrimary, accepted}
 use Rattle.forest.specs.Build.{builtParent, built}
 use Rattle.forest.specs.Calls.{countedAt, counted, drawnAt, drawn, badCounts, emptyAt, emptyGroups, outsideAt, outsideGroups, outsideParent, outsideParents, refuse, groupsRefusal, drawingRefusal, orRoots, buildRefusal, buildParents, checkRefusal, checkParents}
-use Rattle.forest.specs.Claims.{Within, AcceptedForest, LaidByRule}
+use Rattle.forest.specs.Claims.{Within, AcceptedForest, LaidByRule, ComponentsAreParts}
 use Rattle.forest.proofs.Tables.{length-tabulate, getD-tabulate, getD-past, same-tables}
 use Rattle.forest.proofs.Shared.{no-difference, groups-rest}
 use Rattle.forest.proofs.Ancestry.{acyclic-of, of-acyclic, ends-at-root}
 use Rattle.forest.proofs.Primaries.{primary-is, primary-unique, on-route, route-has, members-on-route, parent-on-route, without-primary-none, none-without-primary}
-use Rattle.forest.proofs.Laid.{Bench, rule-part, laid-once, lonely-root, lonely-childless}
+use Rattle.forest.proofs.Laid.{Bench, in-rest, root-small, bench-part, bench-component, rest-part, rest-component, laid-facts, rule-part, laid-once, lonely-root, lonely-childless}
 use Rattle.forest.proofs.Accepted.{built-acyclic, built-within, built-primary}
 
 -- ---- what an unrefused input is
@@ -140,6 +140,20 @@ built-by-rule n c gs e =
       lonely = λ u h none. (lonely-root n (counted c gs) bench u h none, lonely-childless n (counted c gs) bench u h none);
     })
 
+pub components-are-parts : (n c : ℕ) (gs : List ℕ) → buildRefusal n c gs ≡ [] → ComponentsAreParts n (counted c gs)
+unfolding buildRefusal
+components-are-parts n c gs e =
+    let bench = groups-good n c gs [] e .0 .bench in
+    record {
+      whole-part = bench-part n (counted c gs) bench;
+      whole-only = bench-component n (counted c gs) bench;
+      smaller-part = λ {s} {live} {top} {r} l q u m.
+          let f = laid-facts n (counted c gs) bench l in
+          let i = in-rest s r u (root-small n (counted c gs) bench s live r f (q .inside)) m in
+          rest-part n (counted c gs) bench s live r f (q .inside) u (i .0) (i .1);
+      smaller-only = λ {s} {live} {top} {r} l q p. rest-component n (counted c gs) bench s live r (laid-facts n (counted c gs) bench l) (q .inside) p;
+    }
+
 -- ---- a built forest is always accepted
 
 same-cut : (n : ℕ) (gs : List ℕ) → drawn n (built n gs) ≡ built n gs
@@ -222,6 +236,12 @@ check-accepted n c gs ps e =
       members = λ i u b m. members-on-route (drawn n ps) (getD (counted c gs) i 0) u (bounded i) (has i b) m;
       parents = λ i u b m k. parent-on-route (drawn n ps) (getD (counted c gs) i 0) u m k;
     })
+
+-- so a built forest has all that an accepted one has
+pub build-forest : (n c : ℕ) (gs : List ℕ) → buildRefusal n c gs ≡ [] → AcceptedForest n c (counted c gs) (buildParents n c gs)
+build-forest n c gs e =
+    let accepts = build-accepted n c gs e in
+    subst (AcceptedForest n c (counted c gs)) (accepts .1) (check-accepted n c gs (buildParents n c gs) (accepts .0))
 
 -- Where groups and parents are good, a drawing is accepted exactly when no unit is its own ancestor and every group has a primary.
 pub accepted-exactly : (n c : ℕ) (gs ps : List ℕ) → groupsRefusal n c (counted c gs) [] ≡ [] → outsideParents n (drawn n ps) ≡ 0

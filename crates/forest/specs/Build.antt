@@ -17,10 +17,11 @@ pub data Joined (gs : List ℕ) (live among : ℕ) : ℕ → ℕ → Type 0 wher
       → member (getD gs i 0) u ≡ true → member (getD gs i 0) v ≡ true → Joined gs live among u v
   chain : {u v w : ℕ} → Joined gs live among u v → Joined gs live among v w → Joined gs live among u w
 
--- the groups that hold u
+-- group i holds u
 unfoldable pub holdsAt : List ℕ → ℕ → ℕ → Bool
 holdsAt gs u i = member (getD gs i 0) u
 
+-- the groups that hold u
 unfoldable pub groupsOf : List ℕ → ℕ → ℕ
 groupsOf gs u = collect 24 (holdsAt gs u)
 
@@ -32,10 +33,11 @@ degree gs u = size (groupsOf gs u)
 unfoldable pub setAside : List ℕ → ℕ → ℕ → ℕ
 setAside gs live r = difference live (groupsOf gs r)
 
--- s with every live group among the first k that shares a unit with it
+-- s with the group g where g is live and shares a unit with s
 unfoldable pub absorbed : ℕ → ℕ → Bool → ℕ
-absorbed s g test = cond (test && not (eqb (intersection s g) 0)) (union s g) s
+absorbed s g isLive = cond (isLive && not (eqb (intersection s g) 0)) (union s g) s
 
+-- s with every live group among the first k that shares a unit with it, one after the other
 unfoldable pub spread : ℕ → List ℕ → ℕ → ℕ → ℕ
 spread zero gs live s = s
 spread (suc k) gs live s = absorbed (spread k gs live s) (getD gs k 0) (member live k)

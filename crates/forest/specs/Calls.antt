@@ -25,17 +25,19 @@ refusal (NoPrimary g) = 11 ∷ g ∷ []
 unfoldable pub accepts : Verdict → Bool
 accepts v = eqb (length (refusal v)) 0
 
--- the groups that count; the places past them are not read, and are empty
+-- the group at place i; a place past those that count is not read, and is empty
 unfoldable pub countedAt : ℕ → List ℕ → ℕ → ℕ
 countedAt c gs i = cond (ltb i c) (getD gs i 0) 0
 
+-- the 24 places of groups
 unfoldable pub counted : ℕ → List ℕ → List ℕ
 counted c gs = tabulate 24 (countedAt c gs)
 
--- the parents of the units; the places past them are not read, and are 255
+-- the parent of u; a place past the units is not read, and is 255
 unfoldable pub drawnAt : ℕ → List ℕ → ℕ → ℕ
 drawnAt n ps u = cond (ltb u n) (getD ps u 255) 255
 
+-- the 32 parents
 unfoldable pub drawn : ℕ → List ℕ → List ℕ
 drawn n ps = tabulate 32 (drawnAt n ps)
 
@@ -43,21 +45,21 @@ drawn n ps = tabulate 32 (drawnAt n ps)
 unfoldable pub badCounts : ℕ → ℕ → Bool
 badCounts n c = eqb n 0 || ltb 32 n || ltb 24 c
 
--- 4: the groups that are empty
+-- 4: group i counts and is empty; the groups that are
 unfoldable pub emptyAt : ℕ → List ℕ → ℕ → Bool
 emptyAt c gs i = ltb i c && eqb (getD gs i 0) 0
 
 unfoldable pub emptyGroups : ℕ → List ℕ → ℕ
 emptyGroups c gs = collect 24 (emptyAt c gs)
 
--- 6: the groups with a member that is not below the number of units
+-- 6: group i has a member that is not below the number of units; the groups that have one
 unfoldable pub outsideAt : ℕ → List ℕ → ℕ → Bool
 outsideAt n gs i = not (eqb (difference (getD gs i 0) (below n)) 0)
 
 unfoldable pub outsideGroups : ℕ → List ℕ → ℕ
 outsideGroups n gs = collect 24 (outsideAt n gs)
 
--- 6: the units with a parent that is neither a root's 255 nor below the number of units
+-- 6: u has a parent that is neither a root's 255 nor below the number of units; the units that have one
 unfoldable pub outsideParent : ℕ → List ℕ → ℕ → Bool
 outsideParent n ps u = leb n (parent ps u) && not (eqb (parent ps u) 255)
 
@@ -83,18 +85,19 @@ drawingRefusal n c gs ps =
     (refuse (not (eqb (cyclicUnits ps) 0)) (10 ∷ [])
     (refuse (not (eqb (withoutPrimary c gs ps) 0)) (11 ∷ lowest (withoutPrimary c gs ps) ∷ []) []))
 
--- what `build` refuses, and its parents: all 255 beside a refusal, which document 01 leaves open
-unfoldable pub buildRefusal : ℕ → ℕ → List ℕ → List ℕ
-buildRefusal n c gs = groupsRefusal n c (counted c gs) []
-
+-- the parents beside a refusal are all 255, which document 01 leaves open
 unfoldable pub orRoots : List ℕ → List ℕ → List ℕ
 orRoots [] ps = ps
 orRoots (number ∷ values) ps = tabulate 32 (λ u. 255)
 
+-- what `build` refuses, and the parents that it answers
+unfoldable pub buildRefusal : ℕ → ℕ → List ℕ → List ℕ
+buildRefusal n c gs = groupsRefusal n c (counted c gs) []
+
 unfoldable pub buildParents : ℕ → ℕ → List ℕ → List ℕ
 buildParents n c gs = orRoots (buildRefusal n c gs) (built n (counted c gs))
 
--- what `check` refuses, and its parents
+-- what `check` refuses, and the parents that it answers
 unfoldable pub checkRefusal : ℕ → ℕ → List ℕ → List ℕ → List ℕ
 checkRefusal n c gs ps = groupsRefusal n c (counted c gs) (drawingRefusal n c (counted c gs) (drawn n ps))
 

@@ -5,9 +5,9 @@ use Prim.Native.Nat.{ℕ, zero, suc, _≤_, _<_}
 use mathlib.Core.Bool.{true}
 use mathlib.Core.List.{List}
 use lib.ListN.{getD}
-use Rattle.sets.specs.Sets.{member}
+use Rattle.sets.specs.Sets.{member, excluding, below}
 use Rattle.forest.specs.Forest.{parent, primary, route}
-use Rattle.forest.specs.Build.{IsRoot, Laid}
+use Rattle.forest.specs.Build.{setAside, component, IsRoot, IsPart, Laid}
 
 -- a is above u: it is u itself, or is above u's parent
 pub data Above (ps : List ℕ) : ℕ → ℕ → Type 0 where
@@ -53,6 +53,15 @@ pub record AcceptedForest (n c : ℕ) (gs ps : List ℕ) : Type 0 where
   pub members : (i u : ℕ) → i < c → member (getD gs i 0) u ≡ true → member (route ps (getD gs i 0)) u ≡ true
   pub parents : (i u : ℕ) → i < c → member (route ps (getD gs i 0)) u ≡ true → (u ≡ primary ps (getD gs i 0) → ⊥)
       → member (route ps (getD gs i 0)) (parent ps u) ≡ true
+
+-- the rule's components are exactly the parts of document 01: of the whole bench, and of the rest of a laid part when its root is taken out
+pub record ComponentsAreParts (n : ℕ) (gs : List ℕ) : Type 0 where
+  pub whole-part : (u : ℕ) → u < n → IsPart gs (below 24) (below n) (component gs (below 24) u)
+  pub whole-only : {s : ℕ} (p : IsPart gs (below 24) (below n) s) → s ≡ component gs (below 24) (p .unit)
+  pub smaller-part : {s live top r : ℕ} → Laid n gs s live top → IsRoot gs s r → (u : ℕ) → member (excluding s r) u ≡ true
+      → IsPart gs (setAside gs live r) (excluding s r) (component gs (setAside gs live r) u)
+  pub smaller-only : {s live top r t : ℕ} → Laid n gs s live top → IsRoot gs s r → (p : IsPart gs (setAside gs live r) (excluding s r) t)
+      → t ≡ component gs (setAside gs live r) (p .unit)
 
 -- a laid part whose root is u
 pub record RootOf (n : ℕ) (gs : List ℕ) (u : ℕ) : Type 0 where

@@ -46,10 +46,11 @@ primary ps g = lowest (intersection g (aboveEvery 32 ps g))
 unfoldable pub hasPrimary : List ℕ → ℕ → Bool
 hasPrimary ps g = ltb (primary ps g) 32
 
--- the route of g (document 01: its way): every unit below the primary and above a member, both ends included
+-- u is below the primary and among the units above some member
 unfoldable pub onRoute : List ℕ → ℕ → ℕ → ℕ → Bool
 onRoute ps top some u = above ps top u && member some u
 
+-- the route of g (document 01: its way): every unit on the paths from the primary down to the members, both ends included
 unfoldable pub route : List ℕ → ℕ → ℕ
 route ps g = collect 32 (onRoute ps (primary ps g) (aboveSome 32 ps g))
 
@@ -65,7 +66,7 @@ routeSize ps g = size (route ps g)
 unfoldable pub cyclicUnits : List ℕ → ℕ
 cyclicUnits ps = collect 32 (ownAncestor ps)
 
--- the groups, of the first c, that have no primary
+-- group i counts, of the first c, and has no primary; the groups that have none
 unfoldable pub lacksPrimary : ℕ → List ℕ → List ℕ → ℕ → Bool
 lacksPrimary c gs ps i = ltb i c && not (hasPrimary ps (getD gs i 0))
 

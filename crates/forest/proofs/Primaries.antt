@@ -141,13 +141,13 @@ parent-on-route ps g u h n =
 -- ---- every group has a primary
 
 pub without-primary-none : (c : ℕ) (gs ps : List ℕ) → withoutPrimary c gs ps ≡ 0
-    → (i : ℕ) → i < c → i < 24 → hasPrimary ps (getD gs i 0) ≡ true
+    → (i : ℕ) → i < c → i < 32 → hasPrimary ps (getD gs i 0) ≡ true
 unfolding withoutPrimary lacksPrimary
 without-primary-none c gs ps e i l b = not-false (hasPrimary ps (getD gs i 0))
-    (simp (lt-ltb i c l) at (collect-none 24 (lacksPrimary c gs ps) (lit≤ tt) e i b))
+    (simp (lt-ltb i c l) at (collect-none 32 (lacksPrimary c gs ps) (lit≤ tt) e i b))
 
-pub none-without-primary : (c : ℕ) (gs ps : List ℕ) → ((i : ℕ) → i < c → i < 24 → hasPrimary ps (getD gs i 0) ≡ true)
+pub none-without-primary : (c : ℕ) (gs ps : List ℕ) → ((i : ℕ) → i < c → i < 32 → hasPrimary ps (getD gs i 0) ≡ true)
     → withoutPrimary c gs ps ≡ 0
 unfolding withoutPrimary lacksPrimary
-none-without-primary c gs ps h = none-collect 24 (lacksPrimary c gs ps) (λ i b. not-true-false (lacksPrimary c gs ps i)
+none-without-primary c gs ps h = none-collect 32 (lacksPrimary c gs ps) (λ i b. not-true-false (lacksPrimary c gs ps i)
     (λ t. clash (h i (ltb-true i c (and-left (ltb i c) _ t)) b) (false-of-not (hasPrimary ps (getD gs i 0)) (and-right (ltb i c) _ t))))

@@ -84,8 +84,8 @@ groups-good n c gs rest e =
     let four = refuse-none (not (eqb (emptyGroups c (counted c gs)) 0)) 4 _ _ (five .1) in
     let six = refuse-none (not (eqb (outsideGroups n (counted c gs)) 0)) 6 _ _ (four .1) in
     let counts = counts-good n c (five .0) in
-    let units : (i : ℕ) → difference (getD (counted c gs) i 0) (below n) ≡ 0 = λ i. by-cases (decLt i 24)
-    (λ b. zero-set _ (collect-none 24 (outsideAt n (counted c gs)) (lit≤ tt) (zero-set _ (six .0)) i b))
+    let units : (i : ℕ) → difference (getD (counted c gs) i 0) (below n) ≡ 0 = λ i. by-cases (decLt i 32)
+    (λ b. zero-set _ (collect-none 32 (outsideAt n (counted c gs)) (lit≤ tt) (zero-set _ (six .0)) i b))
     (λ b. ap (λ (g : ℕ). difference g (below n)) (past-table c gs i (omega arith)) ∙ no-difference (below n)) in (
       record {
         some = counts .0;
@@ -99,7 +99,7 @@ groups-good n c gs rest e =
         filled = λ i b.
             let some = lowest-of-some (getD (counted c gs) i 0) (inside-units n _ (units i) .0)
             (λ z. clash (and-both (ltb i c) (eqb (getD (counted c gs) i 0) 0) (lt-ltb i c b) (eq-eqb (getD (counted c gs) i 0) 0 z))
-            (collect-none 24 (emptyAt c (counted c gs)) (lit≤ tt) (zero-set _ (four .0)) i (lt-of-lt-of-le b (counts .2)))) in
+            (collect-none 32 (emptyAt c (counted c gs)) (lit≤ tt) (zero-set _ (four .0)) i (let l = counts .2 in omega arith))) in
             (lowest (getD (counted c gs) i 0), some .1);
       },
       six .1,
@@ -225,7 +225,7 @@ check-accepted n c gs ps e =
     let acyclic = acyclic-of (drawn n ps) (faultless .1) in
     let bounded = good .bench .table .bounded in
     let has : (i : ℕ) → i < c → hasPrimary (drawn n ps) (getD (counted c gs) i 0) ≡ true =
-    λ i b. without-primary-none c (counted c gs) (drawn n ps) (faultless .2) i b (lt-of-lt-of-le b (good .count)) in
+    λ i b. without-primary-none c (counted c gs) (drawn n ps) (faultless .2) i b (let l = good .count in omega arith) in
     subst (λ (l : List ℕ). AcceptedForest n c (counted c gs) (orRoots l (drawn n ps))) (sym e) (record {
       within = within;
       acyclic = acyclic;

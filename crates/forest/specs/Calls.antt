@@ -50,14 +50,14 @@ unfoldable pub emptyAt : ℕ → List ℕ → ℕ → Bool
 emptyAt c gs i = ltb i c && eqb (getD gs i 0) 0
 
 unfoldable pub emptyGroups : ℕ → List ℕ → ℕ
-emptyGroups c gs = collect 24 (emptyAt c gs)
+emptyGroups c gs = collect 32 (emptyAt c gs)
 
 -- 6: group i has a member that is not below the number of units; the groups that have one
 unfoldable pub outsideAt : ℕ → List ℕ → ℕ → Bool
 outsideAt n gs i = not (eqb (difference (getD gs i 0) (below n)) 0)
 
 unfoldable pub outsideGroups : ℕ → List ℕ → ℕ
-outsideGroups n gs = collect 24 (outsideAt n gs)
+outsideGroups n gs = collect 32 (outsideAt n gs)
 
 -- 6: u has a parent that is neither a root's 255 nor below the number of units; the units that have one
 unfoldable pub outsideParent : ℕ → List ℕ → ℕ → Bool

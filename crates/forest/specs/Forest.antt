@@ -71,7 +71,7 @@ unfoldable pub lacksPrimary : ℕ → List ℕ → List ℕ → ℕ → Bool
 lacksPrimary c gs ps i = ltb i c && not (hasPrimary ps (getD gs i 0))
 
 unfoldable pub withoutPrimary : ℕ → List ℕ → List ℕ → ℕ
-withoutPrimary c gs ps = collect 24 (lacksPrimary c gs ps)
+withoutPrimary c gs ps = collect 32 (lacksPrimary c gs ps)
 
 -- a forest is accepted for the first c groups: no unit is its own ancestor, and every group has a primary
 unfoldable pub accepted : ℕ → List ℕ → List ℕ → Bool

@@ -1,12 +1,24 @@
--- What the function that lays out a part asks and leaves. No rule of document 01: contracts inside the crate cite it, and its callers' proofs.
+-- What contracts of functions private to the crate cite. No rules of document 01.
 use mathlib.Core.Path.{_≡_}
 use Prim.Native.Nat.{ℕ, _≤_, _<_}
-use mathlib.Core.Bool.{true, false}
+use mathlib.Core.Bool.{Bool, true, false}
 use mathlib.Core.List.{List}
 use lib.ListN.{getD}
 use Rattle.sets.specs.Sets.{member, size}
 use Rattle.forest.specs.Tables.{tabulate}
+use Rattle.forest.specs.Forest.{ownAncestor, lacksPrimary}
+use Rattle.forest.specs.Calls.{emptyAt, outsideAt, outsideParent}
+use Rattle.forest.specs.declared.faults.Fault.{Fault}
+use Rattle.forest.specs.declared.faults.Fault.the-variants.{EmptyGroup, OutsideMember, OutsideParent, OwnAncestor, NoPrimary}
 use Rattle.forest.specs.Build.{groupsOf, component, parentWithin}
+
+-- whether place i, of a group or of a unit, has a fault
+unfoldable pub faulty : Fault → ℕ → ℕ → List ℕ → List ℕ → ℕ → Bool
+faulty EmptyGroup n c gs ps = emptyAt c gs
+faulty OutsideMember n c gs ps = outsideAt n gs
+faulty OutsideParent n c gs ps = outsideParent n ps
+faulty OwnAncestor n c gs ps = ownAncestor ps
+faulty NoPrimary n c gs ps = lacksPrimary c gs ps
 
 -- how many groups u is in, by a table that has for each unit the groups that hold it
 unfoldable pub degreeIn : List ℕ → ℕ → ℕ

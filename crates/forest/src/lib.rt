@@ -1,6 +1,7 @@
 // Forests of units. `check` judges a drawn forest; `build` lays one out from a list of groups.
 mod building;
 mod drawing;
+mod faults;
 mod groups;
 pub mod routes;
 

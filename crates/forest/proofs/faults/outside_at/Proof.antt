@@ -1,8 +1,8 @@
 use borrow.Author.Needs.{needs}
 use Rattle.forest.specs.Calls.{outsideAt}
 use Rattle.forest.proofs.Shared.{getD-beyond, no-difference}
-use Rattle.forest.proofs.groups.outside_at.Statement.{statement}
-use Rattle.forest.proofs.groups.outside_at.Tie as tie
+use Rattle.forest.proofs.faults.outside_at.Statement.{statement}
+use Rattle.forest.proofs.faults.outside_at.Tie as tie
 
 returns : tie.Need-returns
 unfolding outsideAt

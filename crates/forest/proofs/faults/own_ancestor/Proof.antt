@@ -4,8 +4,8 @@ use Rattle.sets.proofs.Laws.{not-member}
 use Rattle.forest.specs.Forest.{parent, ancestors, above, ownAncestor}
 use Rattle.forest.proofs.Ancestry.{ancestors-below}
 use Rattle.forest.proofs.Shared.{getD-any}
-use Rattle.forest.proofs.drawing.own_ancestor.Statement.{statement}
-use Rattle.forest.proofs.drawing.own_ancestor.Tie as tie
+use Rattle.forest.proofs.faults.own_ancestor.Statement.{statement}
+use Rattle.forest.proofs.faults.own_ancestor.Tie as tie
 
 returns : tie.Need-returns
 unfolding ownAncestor above ancestors

@@ -2,8 +2,8 @@ use borrow.Author.Needs.{needs}
 use borrow.Author.Tests.{lt-ltb, le-ltb}
 use Rattle.forest.specs.Forest.{hasPrimary, lacksPrimary}
 use Rattle.forest.proofs.Shared.{getD-beyond, not-ltb, no-primary}
-use Rattle.forest.proofs.drawing.lacks_primary.Statement.{statement}
-use Rattle.forest.proofs.drawing.lacks_primary.Tie as tie
+use Rattle.forest.proofs.faults.lacks_primary.Statement.{statement}
+use Rattle.forest.proofs.faults.lacks_primary.Tie as tie
 
 returns : tie.Need-returns
 unfolding lacksPrimary

@@ -4,8 +4,8 @@ use mathlib.Core.Bool.{and-false}
 use Rattle.forest.specs.Forest.{parent}
 use Rattle.forest.specs.Calls.{outsideParent}
 use Rattle.forest.proofs.Shared.{getD-any, getD-beyond}
-use Rattle.forest.proofs.drawing.outside_parent.Statement.{statement}
-use Rattle.forest.proofs.drawing.outside_parent.Tie as tie
+use Rattle.forest.proofs.faults.outside_parent.Statement.{statement}
+use Rattle.forest.proofs.faults.outside_parent.Tie as tie
 
 returns : tie.Need-returns
 unfolding outsideParent parent

@@ -20,7 +20,8 @@ use Rattle.forest.proofs.Ancestry.{above-trans, above-unit}
 use Rattle.forest.proofs.Primaries.{has-primary}
 use Rattle.forest.proofs.Parts.{Closed, place-below, component-self, component-closed}
 use Rattle.forest.proofs.Roots.{root-is}
-use Rattle.forest.proofs.Laid.{Bench, live-left, laid-facts, depth, laid-depth, laid-parent, rest-part, smaller-size, whole-part, root-of, rule-part, built-parent, past-parent}
+use Rattle.forest.proofs.Laid.{Bench, live-left, laid-facts, depth, laid-depth, laid-parent, rest-part, smaller-size}
+use Rattle.forest.proofs.Laid.{whole-part, root-of, rule-part, built-parent, past-parent}
 
 -- what is no unit has no unit above it
 no-unit : {ps : List ℕ} {a u : ℕ} → Above ps a u → u ≡ 255 → ⊥
@@ -39,7 +40,8 @@ module _ (n : ℕ) (gs : List ℕ) (bench : Bench n gs) where
 
   -- ---- the root of a part is above all of it
 
-  root-above : (m : ℕ) {s live top : ℕ} (l : Laid n gs s live top) (r : ℕ) → IsRoot gs s r → (u : ℕ) → size s ≤ m → member s u ≡ true → Above (built n gs) r u
+  root-above : (m : ℕ) {s live top : ℕ} (l : Laid n gs s live top) (r : ℕ) → IsRoot gs s r → (u : ℕ) → size s ≤ m → member s u ≡ true
+      → Above (built n gs) r u
   root-above zero {s} l r q u h a = absurd (not-suc-le-zero (le-trans (size-positive s u (small (laid-unit l a)) a) h))
   root-above (suc m) {s} {live} l r q u h a =
       let f = laid-facts n gs bench l in
@@ -51,7 +53,8 @@ module _ (n : ℕ) (gs : List ℕ) (bench : Bench n gs) where
       let self = component-self gs (setAside gs live r) (bench .table) u (small (laid-unit l a)) in
       let q′ = root-is gs t u (laid-facts n gs bench l′ .bounded) self in
       above-trans
-      (over (small (laid-unit l′ (q′ .inside))) (subst (λ (x : ℕ). Above (built n gs) r x) (sym (root-parent l′ q′)) (itself (small (laid-unit l (q .inside))))))
+      (over (small (laid-unit l′ (q′ .inside)))
+      (subst (λ (x : ℕ). Above (built n gs) r x) (sym (root-parent l′ q′)) (itself (small (laid-unit l (q .inside))))))
       (root-above m l′ (root gs t) q′ u (le-of-suc-le-suc (le-trans (smaller-size n gs bench s live r f (q .inside) u a k) h)) self))
 
   -- ---- no unit is its own ancestor: a unit above another lies no deeper
@@ -68,7 +71,8 @@ module _ (n : ℕ) (gs : List ℕ) (bench : Bench n gs) where
   unfolding depth
   own (whole p) q x = no-unit x (root-parent (whole p) q)
   own (smaller {s} r l q′ p) q x =
-      lt-irrefl (depth n gs bench l) (no-deeper x (smaller r l q′ p) q l (subst (λ (y : ℕ). IsRoot gs s y) (sym (root-parent (smaller r l q′ p) q)) q′))
+      lt-irrefl (depth n gs bench l)
+      (no-deeper x (smaller r l q′ p) q l (subst (λ (y : ℕ). IsRoot gs s y) (sym (root-parent (smaller r l q′ p) q)) q′))
 
   pub built-acyclic : Acyclic (built n gs)
   unfolding Acyclic
@@ -94,13 +98,15 @@ module _ (n : ℕ) (gs : List ℕ) (bench : Bench n gs) where
   -- ---- every group has a primary: the root of the last part that holds all of it
 
   -- a live group lies whole in the component of each of its units
-  whole-group : (live i v : ℕ) → member live i ≡ true → member (getD gs i 0) v ≡ true → (u : ℕ) → member (getD gs i 0) u ≡ true → member (component gs live v) u ≡ true
+  whole-group : (live i v : ℕ) → member live i ≡ true → member (getD gs i 0) v ≡ true → (u : ℕ) → member (getD gs i 0) u ≡ true
+      → member (component gs live v) u ≡ true
   unfolding Closed
   whole-group live i v a b u c =
       let bound = small (bench .within i v b) in
       component-closed gs live (bench .table) v bound i v u a b c (component-self gs live (bench .table) v bound)
 
-  group-primary : (m : ℕ) {s live top : ℕ} (l : Laid n gs s live top) (i v : ℕ) → size s ≤ m → member live i ≡ true → member (getD gs i 0) v ≡ true
+  group-primary : (m : ℕ) {s live top : ℕ} (l : Laid n gs s live top) (i v : ℕ) → size s ≤ m → member live i ≡ true
+      → member (getD gs i 0) v ≡ true
       → ((u : ℕ) → member (getD gs i 0) u ≡ true → member s u ≡ true) → (p : ℕ) × IsPrimary (built n gs) (getD gs i 0) p
   group-primary zero {s} l i v h a b sub = absurd (not-suc-le-zero (le-trans (size-positive s v (small (laid-unit l (sub v b))) (sub v b)) h))
   group-primary (suc m) {s} {live} l i v h a b sub =
@@ -113,11 +119,14 @@ module _ (n : ℕ) (gs : List ℕ) (bench : Bench n gs) where
       let k : v ≡ r → ⊥ = λ e. clash b (ap (member (getD gs i 0)) e ∙ g) in
       let left = live-left gs live r i a (λ c. clash c g) in
       group-primary m (smaller r l q (rest-part n gs bench s live r f (q .inside) v (sub v b) k)) i v
-      (le-of-suc-le-suc (le-trans (smaller-size n gs bench s live r f (q .inside) v (sub v b) k) h)) left b (whole-group (setAside gs live r) i v left b))
+      (le-of-suc-le-suc (le-trans (smaller-size n gs bench s live r f (q .inside) v (sub v b) k) h)) left b
+      (whole-group (setAside gs live r) i v left b))
       (either (member (getD gs i 0) r))
 
   pub built-primary : (i v : ℕ) → member (getD gs i 0) v ≡ true → hasPrimary (built n gs) (getD gs i 0) ≡ true
   built-primary i v b =
-      let live : member (below 24) i ≡ true = member-below-set 24 i ∙ and-both (ltb i 32) (ltb i 24) (lt-ltb i 32 (let h = place-below gs (bench .table) i v b in omega arith)) (lt-ltb i 24 (place-below gs (bench .table) i v b)) in
-      let p = group-primary 32 (whole-part n gs bench v (bench .within i v b)) i v (size-below (component gs (below 24) v)) live b (whole-group (below 24) i v live b) in
+      let live : member (below 24) i ≡ true = member-below-set 24 i ∙ and-both (ltb i 32) (ltb i 24)
+      (lt-ltb i 32 (let h = place-below gs (bench .table) i v b in omega arith)) (lt-ltb i 24 (place-below gs (bench .table) i v b)) in
+      let p = group-primary 32 (whole-part n gs bench v (bench .within i v b)) i v (size-below (component gs (below 24) v)) live b
+      (whole-group (below 24) i v live b) in
       has-primary (built n gs) (getD gs i 0) (p .0) (bench .table .bounded i) (p .1)

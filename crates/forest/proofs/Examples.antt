@@ -7,9 +7,14 @@ use lib.ListN.{replicate}
 use lib.Count.{onesIn, trailingZeros}
 use Rattle.sets.specs.Sets.{member, single, below, union, intersection, difference, including, includingIf, size, lowest, collect}
 use Rattle.forest.specs.Tables.{tabulate}
-use Rattle.forest.specs.Forest.{onRoute, lacksPrimary, parent, ancestorsWithin, ancestors, above, ownAncestor, aboveEvery, aboveSome, primary, hasPrimary, route, forwarders, routeSize, cyclicUnits, withoutPrimary, accepted}
-use Rattle.forest.specs.Build.{holdsAt, absorbed, groupsOf, degree, setAside, spread, rounds, component, betterOf, largestWithin, root, parentWithin, builtParent, built}
-use Rattle.forest.specs.Calls.{countedAt, drawnAt, emptyAt, outsideAt, outsideParent, counted, drawn, badCounts, emptyGroups, outsideGroups, outsideParents, refuse, groupsRefusal, drawingRefusal, orRoots, buildRefusal, buildParents, checkRefusal, checkParents}
+use Rattle.forest.specs.Forest.{onRoute, lacksPrimary, parent, ancestorsWithin, ancestors, above, ownAncestor, aboveEvery}
+use Rattle.forest.specs.Forest.{aboveSome, primary, hasPrimary, route, forwarders, routeSize, cyclicUnits, withoutPrimary}
+use Rattle.forest.specs.Forest.{accepted}
+use Rattle.forest.specs.Build.{holdsAt, absorbed, groupsOf, degree, setAside, spread, rounds, component, betterOf}
+use Rattle.forest.specs.Build.{largestWithin, root, parentWithin, builtParent, built}
+use Rattle.forest.specs.Calls.{countedAt, drawnAt, emptyAt, outsideAt, outsideParent, counted, drawn, badCounts}
+use Rattle.forest.specs.Calls.{emptyGroups, outsideGroups, outsideParents, refuse, groupsRefusal, drawingRefusal, orRoots}
+use Rattle.forest.specs.Calls.{buildRefusal, buildParents, checkRefusal, checkParents}
 
 -- no refusal, and the parents of the units with 255 at the places past them
 pub record Answers (refusal parents expected : List ℕ) (rest : ℕ) : Type 0 where
@@ -38,7 +43,12 @@ pub record Examples : Type 0 where
   pub p6 : checkRefusal 2 0 [] (1 ∷ 0 ∷ []) ≡ 10 ∷ []
 
 pub examples : Examples
-unfolding onesIn trailingZeros onRoute lacksPrimary holdsAt absorbed countedAt drawnAt emptyAt outsideAt outsideParent member single below union intersection difference including includingIf size lowest collect tabulate parent ancestorsWithin ancestors above ownAncestor aboveEvery aboveSome primary hasPrimary route forwarders routeSize cyclicUnits withoutPrimary accepted groupsOf degree setAside spread rounds component betterOf largestWithin root parentWithin builtParent built counted drawn badCounts emptyGroups outsideGroups outsideParents refuse groupsRefusal drawingRefusal orRoots buildRefusal buildParents checkRefusal checkParents
+unfolding onesIn trailingZeros onRoute lacksPrimary holdsAt absorbed countedAt drawnAt emptyAt outsideAt outsideParent
+    member single below union intersection difference including includingIf size lowest collect tabulate parent
+    ancestorsWithin ancestors above ownAncestor aboveEvery aboveSome primary hasPrimary route forwarders routeSize
+    cyclicUnits withoutPrimary accepted groupsOf degree setAside spread rounds component betterOf largestWithin root
+    parentWithin builtParent built counted drawn badCounts emptyGroups outsideGroups outsideParents refuse
+    groupsRefusal drawingRefusal orRoots buildRefusal buildParents checkRefusal checkParents
 examples = record {
   p1 = record { unrefused = refl; right = refl };
   p2 = record { unrefused = refl; right = refl };

@@ -13,12 +13,15 @@ use lib.Dec.{ltb, eqb, lit≤}
 use borrow.Author.Tests.{lt-ltb, le-ltb, eq-eqb, ne-eqb, ltb-true}
 use Rattle.sets.specs.Sets.{member, excluding, size, below}
 use Rattle.sets.proofs.Bools.{either, clash, and-left, and-right, and-both, not-of-false, false-of-not, same-test, cond-true, cond-false}
-use Rattle.sets.proofs.Laws.{Subset, member-below-set, member-excluding, member-difference, member-collect, same-members, size-less, size-below, size-positive}
+use Rattle.sets.proofs.Laws.{Subset, member-below-set, member-excluding, member-difference, member-collect, same-members}
+use Rattle.sets.proofs.Laws.{size-less, size-below, size-positive}
 use Rattle.forest.specs.Forest.{parent}
-use Rattle.forest.specs.Build.{itself, holdsAt, groupsOf, setAside, component, root, parentWithin, builtParent, built, IsRoot, IsPart, Laid, whole, smaller}
+use Rattle.forest.specs.Build.{itself, holdsAt, groupsOf, setAside, component, root, parentWithin, builtParent, built}
+use Rattle.forest.specs.Build.{IsRoot, IsPart, Laid, whole, smaller}
 use Rattle.forest.specs.Claims.{RootOf, Same}
 use Rattle.forest.proofs.Tables.{getD-tabulate, getD-past}
-use Rattle.forest.proofs.Parts.{Table, Closed, place-below, joined-among, component-keeps, component-below, component-self, component-closed, component-joined, joined-component, component-same}
+use Rattle.forest.proofs.Parts.{Table, Closed, place-below, joined-among, component-keeps, component-below, component-self}
+use Rattle.forest.proofs.Parts.{component-closed, component-joined, joined-component, component-same}
 use Rattle.forest.proofs.Roots.{root-is, root-unique, root-found}
 
 -- a table of groups of n units
@@ -34,27 +37,32 @@ pub in-rest : (s r v : ℕ) → r < 32 → member (excluding s r) v ≡ true →
 in-rest s r v h m =
     let both = sym (member-excluding s r v) ∙ m in (
       and-left (member s v) (not (ltb r 32 && eqb r v)) both,
-      λ e. clash (and-both (ltb r 32) (eqb r v) (lt-ltb r 32 h) (eq-eqb r v (sym e))) (false-of-not (ltb r 32 && eqb r v) (and-right (member s v) (not (ltb r 32 && eqb r v)) both)),
+      λ e. clash (and-both (ltb r 32) (eqb r v) (lt-ltb r 32 h) (eq-eqb r v (sym e)))
+          (false-of-not (ltb r 32 && eqb r v) (and-right (member s v) (not (ltb r 32 && eqb r v)) both)),
     )
 
 pub rest-in : (s r v : ℕ) → member s v ≡ true → (v ≡ r → ⊥) → member (excluding s r) v ≡ true
 rest-in s r v m n = member-excluding s r v ∙ simp (m, ne-eqb r v (λ e. n (sym e))) (ap not (and-false (ltb r 32)))
 
 -- a group left does not hold the root
-pub left-live : (gs : List ℕ) (live r i : ℕ) → Table gs → member (setAside gs live r) i ≡ true → (member live i ≡ true) × (member (getD gs i 0) r ≡ true → ⊥)
+pub left-live : (gs : List ℕ) (live r i : ℕ) → Table gs → member (setAside gs live r) i ≡ true
+    → (member live i ≡ true) × (member (getD gs i 0) r ≡ true → ⊥)
 unfolding setAside groupsOf holdsAt
 left-live gs live r i tab m =
     let both = sym (member-difference live (groupsOf gs r) i) ∙ m in (
       and-left (member live i) (not (member (groupsOf gs r) i)) both,
-      λ a. clash (member-collect 24 (holdsAt gs r) i (lit≤ tt) ∙ and-both (ltb i 24) (member (getD gs i 0) r) (lt-ltb i 24 (place-below gs tab i r a)) a)
+      λ a. clash (member-collect 24 (holdsAt gs r) i (lit≤ tt) ∙ and-both (ltb i 24) (member (getD gs i 0) r)
+          (lt-ltb i 24 (place-below gs tab i r a)) a)
           (false-of-not (member (groupsOf gs r) i) (and-right (member live i) (not (member (groupsOf gs r) i)) both)),
     )
 
 pub live-left : (gs : List ℕ) (live r i : ℕ) → member live i ≡ true → (member (getD gs i 0) r ≡ true → ⊥) → member (setAside gs live r) i ≡ true
 unfolding setAside groupsOf holdsAt
 live-left gs live r i l n =
-    member-difference live (groupsOf gs r) i ∙ and-both (member live i) (not (member (groupsOf gs r) i)) l (not-of-false (member (groupsOf gs r) i) (⊎-elim
-    (λ a. absurd (n (and-right (ltb i 24) (member (getD gs i 0) r) (sym (member-collect 24 (holdsAt gs r) i (lit≤ tt)) ∙ a)))) (λ a. a) (either (member (groupsOf gs r) i))))
+    member-difference live (groupsOf gs r) i ∙ and-both (member live i) (not (member (groupsOf gs r) i)) l
+    (not-of-false (member (groupsOf gs r) i) (⊎-elim
+    (λ a. absurd (n (and-right (ltb i 24) (member (getD gs i 0) r) (sym (member-collect 24 (holdsAt gs r) i (lit≤ tt)) ∙ a)))) (λ a. a)
+    (either (member (groupsOf gs r) i))))
 
 -- ---- parts are components
 
@@ -93,7 +101,8 @@ module _ (n : ℕ) (gs : List ℕ) (bench : Bench n gs) where
 
   pub all-closed : (live : ℕ) → Closed gs live (below n)
   unfolding Closed
-  all-closed live i u v l a b m = let h = bench .within i v b in member-below-set n v ∙ and-both (ltb v 32) (ltb v n) (lt-ltb v 32 (unit-small h)) (lt-ltb v n h)
+  all-closed live i u v l a b m = let h = bench .within i v b in member-below-set n v ∙ and-both (ltb v 32) (ltb v n)
+      (lt-ltb v 32 (unit-small h)) (lt-ltb v n h)
 
   below-unit : (u : ℕ) → member (below n) u ≡ true → u < n
   below-unit u m = ltb-true u n (and-right (ltb u 32) (ltb u n) (sym (member-below-set n u) ∙ m))
@@ -122,15 +131,18 @@ module _ (n : ℕ) (gs : List ℕ) (bench : Bench n gs) where
     -- a smaller part lies in the rest
     pub component-in-rest : (u : ℕ) → member s u ≡ true → (u ≡ r → ⊥) → Subset (component gs (setAside gs live r) u) (excluding s r)
     unfolding Subset
-    component-in-rest u m k v a = joined-among (component-joined gs (setAside gs live r) (bench .table) (excluding s r) rest-closed u v (rest-in s r u m k) a)
+    component-in-rest u m k v a = joined-among
+        (component-joined gs (setAside gs live r) (bench .table) (excluding s r) rest-closed u v (rest-in s r u m k) a)
 
     pub smaller-size : (u : ℕ) → member s u ≡ true → (u ≡ r → ⊥) → size (component gs (setAside gs live r) u) < size s
     unfolding Subset
     smaller-size u m k =
         size-less (component gs (setAside gs live r) u) s r (λ v a. in-rest s r v root-small (component-in-rest u m k v a) .0) root-small rm
-        (⊎-elim (λ a. absurd (in-rest s r r root-small (component-in-rest u m k r a) .1 refl)) (λ a. a) (either (member (component gs (setAside gs live r) u) r)))
+        (⊎-elim (λ a. absurd (in-rest s r r root-small (component-in-rest u m k r a) .1 refl)) (λ a. a)
+        (either (member (component gs (setAside gs live r) u) r)))
 
-    pub rest-part : (u : ℕ) → member s u ≡ true → (u ≡ r → ⊥) → IsPart gs (setAside gs live r) (excluding s r) (component gs (setAside gs live r) u)
+    pub rest-part : (u : ℕ) → member s u ≡ true → (u ≡ r → ⊥)
+        → IsPart gs (setAside gs live r) (excluding s r) (component gs (setAside gs live r) u)
     rest-part u m k = component-part gs (setAside gs live r) (excluding s r) (bench .table) rest-closed rest-units u (rest-in s r u m k)
 
     pub rest-component : {t : ℕ} (p : IsPart gs (setAside gs live r) (excluding s r) t) → t ≡ component gs (setAside gs live r) (p .unit)
@@ -139,7 +151,8 @@ module _ (n : ℕ) (gs : List ℕ) (bench : Bench n gs) where
   -- ---- laid parts
 
   pub bench-part : (u : ℕ) → u < n → IsPart gs (below 24) (below n) (component gs (below 24) u)
-  bench-part u h = component-part gs (below 24) (below n) (bench .table) (all-closed (below 24)) (λ v m. unit-small (below-unit v m)) u (unit-below u h)
+  bench-part u h = component-part gs (below 24) (below n) (bench .table) (all-closed (below 24)) (λ v m. unit-small (below-unit v m)) u
+      (unit-below u h)
 
   pub bench-component : {s : ℕ} (p : IsPart gs (below 24) (below n) s) → s ≡ component gs (below 24) (p .unit)
   bench-component p = part-component gs (below 24) (below n) (bench .table) (all-closed (below 24)) (λ v m. unit-small (below-unit v m)) p
@@ -149,7 +162,8 @@ module _ (n : ℕ) (gs : List ℕ) (bench : Bench n gs) where
 
   pub laid-facts : {s live top : ℕ} → Laid n gs s live top → Facts n gs s live
   laid-facts (whole {s} p) =
-      subst (λ (x : ℕ). Facts n gs x (below 24)) (sym (bench-component p)) (component-facts (below 24) (p .unit) (below-unit (p .unit) (p .inside)))
+      subst (λ (x : ℕ). Facts n gs x (below 24)) (sym (bench-component p))
+      (component-facts (below 24) (p .unit) (below-unit (p .unit) (p .inside)))
   laid-facts (smaller {s} {live} {top} {t} r l q p) =
       let f = laid-facts l in
       let m = in-rest s r (p .unit) (root-small s live r f (q .inside)) (p .inside) in
@@ -179,7 +193,8 @@ module _ (n : ℕ) (gs : List ℕ) (bench : Bench n gs) where
       omega (arith, laid-size l, ap size (rest-component s live r f (q .inside) p), smaller-size s live r f (q .inside) (p .unit) (m .0) (m .1))
 
   -- the root of a part of depth d is found after d steps of the rule
-  laid-steps : {s live top : ℕ} (l : Laid n gs s live top) (k u : ℕ) → k + depth l ≡ 32 → member s u ≡ true → builtParent gs u ≡ parentWithin k gs live top u
+  laid-steps : {s live top : ℕ} (l : Laid n gs s live top) (k u : ℕ) → k + depth l ≡ 32 → member s u ≡ true
+      → builtParent gs u ≡ parentWithin k gs live top u
   unfolding depth builtParent parentWithin
   laid-steps (whole p) k u e m = ap (λ (x : ℕ). parentWithin x gs (below 24) 255 u) (let z : 32 ≡ k = omega arith in z)
   laid-steps (smaller {s} {live} {top} {t} r l q p) k u e m =
@@ -187,7 +202,8 @@ module _ (n : ℕ) (gs : List ℕ) (bench : Bench n gs) where
       let i = laid-inside r l q p u m in
       let root-r : root gs (component gs live u) ≡ r = ap (root gs) (f .same u (i .0)) ∙ root-found gs s r (f .bounded) q in
       laid-steps l (suc k) u (omega arith) (i .0)
-      ∙ cond-false (eqb u (root gs (component gs live u))) top (parentWithin k gs (setAside gs live (root gs (component gs live u))) (root gs (component gs live u)) u)
+      ∙ cond-false (eqb u (root gs (component gs live u))) top
+      (parentWithin k gs (setAside gs live (root gs (component gs live u))) (root gs (component gs live u)) u)
       (ne-eqb u (root gs (component gs live u)) (λ z. i .1 (z ∙ root-r)))
       ∙ ap (λ (x : ℕ). parentWithin k gs (setAside gs live x) x u) root-r
 
@@ -200,7 +216,8 @@ module _ (n : ℕ) (gs : List ℕ) (bench : Bench n gs) where
       let z : suc (31 - depth l) + depth l ≡ 32 = omega (arith, laid-size l, size-positive s r small (q .inside)) in
       let root-r : root gs (component gs live r) ≡ r = ap (root gs) (f .same r (q .inside)) ∙ root-found gs s r (f .bounded) q in
       laid-steps l (suc (31 - depth l)) r z (q .inside)
-      ∙ cond-true (eqb r (root gs (component gs live r))) top (parentWithin (31 - depth l) gs (setAside gs live (root gs (component gs live r))) (root gs (component gs live r)) r)
+      ∙ cond-true (eqb r (root gs (component gs live r))) top
+      (parentWithin (31 - depth l) gs (setAside gs live (root gs (component gs live r))) (root gs (component gs live r)) r)
       (eq-eqb r (root gs (component gs live r)) (sym root-r))
 
   -- ---- every unit is the root of exactly one laid part
@@ -217,12 +234,18 @@ module _ (n : ℕ) (gs : List ℕ) (bench : Bench n gs) where
       (component-self gs (setAside gs live (root gs s)) (bench .table) u (unit-small (f .units u a))))
 
   pub root-of : (u : ℕ) → u < n → RootOf n gs u
-  root-of u h = find 32 (whole-part u h) u (size-below (component gs (below 24) u)) (component-self gs (below 24) (bench .table) u (unit-small h))
+  root-of u h = find 32 (whole-part u h) u (size-below (component gs (below 24) u))
+      (component-self gs (below 24) (bench .table) u (unit-small h))
 
   same-depth : {s live top s′ live′ top′ : ℕ} (l : Laid n gs s live top) (l′ : Laid n gs s′ live′ top′) (u : ℕ)
       → depth l ≡ depth l′ → member s u ≡ true → member s′ u ≡ true → Same s s′ live live′ top top′
   unfolding depth
-  same-depth (whole p) (whole p′) u e m m′ = record { parts = sym (laid-facts (whole p) .same u m) ∙ laid-facts (whole p′) .same u m′; lives = refl; tops = refl }
+  same-depth (whole p) (whole p′) u e m m′ = record {
+    parts = sym (laid-facts (whole p) .same u m) ∙ laid-facts
+        (whole p′) .same u m′;
+    lives = refl;
+    tops = refl;
+  }
   same-depth (whole p) (smaller r l q p′) u e m m′ = absurd (lt-irrefl 0 (omega arith))
   same-depth (smaller r l q p) (whole p′) u e m m′ = absurd (lt-irrefl 0 (omega arith))
   same-depth (smaller {s} {live} r l q p) (smaller {s = s′} {live = live′} r′ l′ q′ p′) u e m m′ =
@@ -230,7 +253,8 @@ module _ (n : ℕ) (gs : List ℕ) (bench : Bench n gs) where
       let roots : r ≡ r′ = root-unique gs s r r′ q (subst (λ (x : ℕ). IsRoot gs x r′) (sym (outside .parts)) q′) in
       let lefts : setAside gs live r ≡ setAside gs live′ r′ = ap (λ (x : ℕ). setAside gs x r) (outside .lives) ∙ ap (setAside gs live′) roots in
       record {
-        parts = sym (laid-facts (smaller r l q p) .same u m) ∙ ap (λ (x : ℕ). component gs x u) lefts ∙ laid-facts (smaller r′ l′ q′ p′) .same u m′;
+        parts = sym (laid-facts (smaller r l q p) .same u m) ∙ ap (λ (x : ℕ). component gs x u) lefts ∙ laid-facts
+            (smaller r′ l′ q′ p′) .same u m′;
         lives = lefts;
         tops = roots;
       }
@@ -275,24 +299,29 @@ module _ (n : ℕ) (gs : List ℕ) (bench : Bench n gs) where
       })
 
   -- the root of a part is in no deeper part
-  not-deeper : {s live top s′ live′ top′ : ℕ} (l : Laid n gs s live top) (l′ : Laid n gs s′ live′ top′) (u : ℕ) → IsRoot gs s u → member s′ u ≡ true → depth l < depth l′ → ⊥
+  not-deeper : {s live top s′ live′ top′ : ℕ} (l : Laid n gs s live top) (l′ : Laid n gs s′ live′ top′) (u : ℕ) → IsRoot gs s u
+      → member s′ u ≡ true → depth l < depth l′ → ⊥
   not-deeper {s} {s′ = t} l l′ u q m h =
       let o = outer l′ (depth l) h in
       let same = same-depth (o .laid) l u (o .deep) (o .covers u m) (q .inside) in
-      o .without (subst (λ (x : ℕ). member t x ≡ true) (sym (root-unique gs s (o .top-root) u (subst (λ (x : ℕ). IsRoot gs x (o .top-root)) (same .parts) (o .is-root)) q)) m)
+      o .without (subst (λ (x : ℕ). member t x ≡ true)
+      (sym (root-unique gs s (o .top-root) u (subst (λ (x : ℕ). IsRoot gs x (o .top-root)) (same .parts) (o .is-root)) q)) m)
 
-  pub laid-depth : {s live top s′ live′ top′ : ℕ} (l : Laid n gs s live top) (l′ : Laid n gs s′ live′ top′) (u : ℕ) → IsRoot gs s u → IsRoot gs s′ u → depth l ≡ depth l′
+  pub laid-depth : {s live top s′ live′ top′ : ℕ} (l : Laid n gs s live top) (l′ : Laid n gs s′ live′ top′) (u : ℕ) → IsRoot gs s u
+      → IsRoot gs s′ u → depth l ≡ depth l′
   laid-depth l l′ u q q′ = by-cases (decLt (depth l) (depth l′)) (λ h. absurd (not-deeper l l′ u q (q′ .inside) h))
       (λ h. by-cases (decLt (depth l′) (depth l)) (λ h′. absurd (not-deeper l′ l u q′ (q .inside) h′)) (λ h′. omega arith))
 
-  pub laid-once : {s live top s′ live′ top′ : ℕ} → Laid n gs s live top → Laid n gs s′ live′ top′ → (u : ℕ) → IsRoot gs s u → IsRoot gs s′ u → Same s s′ live live′ top top′
+  pub laid-once : {s live top s′ live′ top′ : ℕ} → Laid n gs s live top → Laid n gs s′ live′ top′ → (u : ℕ) → IsRoot gs s u → IsRoot gs s′ u
+      → Same s s′ live live′ top top′
   laid-once l l′ u q q′ = same-depth l l′ u (laid-depth l l′ u q q′) (q .inside) (q′ .inside)
 
   -- ---- the built forest
 
   pub built-parent : (u : ℕ) → u < n → parent (built n gs) u ≡ builtParent gs u
   unfolding parent built
-  built-parent u h = getD-tabulate 32 (λ v. cond (ltb v n) (builtParent gs v) 255) u 255 (unit-small h) ∙ cond-true (ltb u n) (builtParent gs u) 255 (lt-ltb u n h)
+  built-parent u h = getD-tabulate 32 (λ v. cond (ltb v n) (builtParent gs v) 255) u 255 (unit-small h) ∙ cond-true (ltb u n)
+      (builtParent gs u) 255 (lt-ltb u n h)
 
   pub past-parent : (u : ℕ) → n ≤ u → parent (built n gs) u ≡ 255
   unfolding parent built
@@ -307,14 +336,18 @@ module _ (n : ℕ) (gs : List ℕ) (bench : Bench n gs) where
   -- ---- a unit in no group
 
   alone : (u live v : ℕ) → ((i : ℕ) → member (getD gs i 0) u ≡ true → ⊥) → member (component gs live u) v ≡ true → v ≡ u
-  alone u live v none = component-keeps gs live (bench .table) (λ x. x ≡ u) (λ i w x l a b e. absurd (none i (subst (λ (y : ℕ). member (getD gs i 0) y ≡ true) e a))) u refl v
+  alone u live v none = component-keeps gs live (bench .table) (λ x. x ≡ u)
+      (λ i w x l a b e. absurd (none i (subst (λ (y : ℕ). member (getD gs i 0) y ≡ true) e a))) u refl v
 
   -- A unit in no group is a root without children.
   pub lonely-root : (u : ℕ) → u < n → ((i : ℕ) → member (getD gs i 0) u ≡ true → ⊥) → parent (built n gs) u ≡ 255
   lonely-root u h none =
-      let q = root-is gs (component gs (below 24) u) u (component-below gs (below 24) (bench .table) u) (component-self gs (below 24) (bench .table) u (unit-small h)) in
+      let q = root-is gs (component gs (below 24) u) u (component-below gs (below 24) (bench .table) u)
+      (component-self gs (below 24) (bench .table) u (unit-small h)) in
       built-parent u h
-      ∙ laid-parent (whole-part u h) u (subst (λ (x : ℕ). IsRoot gs (component gs (below 24) u) x) (alone u (below 24) (root gs (component gs (below 24) u)) none (q .inside)) q)
+      ∙ laid-parent (whole-part u h) u
+      (subst (λ (x : ℕ). IsRoot gs (component gs (below 24) u) x)
+      (alone u (below 24) (root gs (component gs (below 24) u)) none (q .inside)) q)
 
   no-child : {s live top : ℕ} → Laid n gs s live top → (u : ℕ) → u < n → ((i : ℕ) → member (getD gs i 0) u ≡ true → ⊥) → top ≡ u → ⊥
   no-child (whole p) u h none e = lt-irrefl 32 (let z : 255 < 32 = subst (λ (x : ℕ). x < 32) (sym e) (unit-small h) in omega arith)

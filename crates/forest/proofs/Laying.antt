@@ -13,9 +13,12 @@ use lib.Dec.{ltb, eqb}
 use borrow.Author.Tests.{eq-eqb, ne-eqb, lt-ltb}
 use Rattle.sets.specs.Sets.{member, difference, excluding, size, lowest, below}
 use Rattle.sets.proofs.Bools.{either, clash, and-left, and-right, and-both, not-of-false, false-of-not, not-true-false, cond-true, cond-false}
-use Rattle.sets.proofs.Laws.{Subset, member-below, member-below-set, member-difference, member-empty, difference-below, excluding-below, size-subset, size-less, size-excluding, size-below, lowest-of-some, not-empty, not-member, below-below, none-collect}
+use Rattle.sets.proofs.Laws.{Subset, member-below, member-below-set, member-difference, member-empty, difference-below}
+use Rattle.sets.proofs.Laws.{excluding-below, size-subset, size-less, size-excluding, size-below, lowest-of-some, not-empty}
+use Rattle.sets.proofs.Laws.{not-member, below-below, none-collect}
 use Rattle.forest.specs.Tables.{tabulate}
-use Rattle.forest.specs.Build.{holdsAt, groupsOf, degree, setAside, component, largestWithin, root, parentWithin, builtParent, built, IsRoot}
+use Rattle.forest.specs.Build.{holdsAt, groupsOf, degree, setAside, component, largestWithin, root, parentWithin}
+use Rattle.forest.specs.Build.{builtParent, built, IsRoot}
 use Rattle.forest.specs.Calls.{drawnAt, drawn}
 use Rattle.forest.specs.Layout.{degreeIn, Layable, LaidOut}
 use Rattle.forest.proofs.Tables.{tabulated, same-tables, getD-tabulate, getD-past}
@@ -65,7 +68,8 @@ module _ {gs : List ℕ} {live top all : ℕ} {before table : List ℕ} {rest : 
   laying-less : size (difference rest (component gs live (lowest rest))) < size rest
   unfolding Subset
   laying-less =
-      size-less (difference rest (component gs live (lowest rest))) rest (lowest rest) (λ u m. and-left (member rest u) _ (sym (member-difference rest (component gs live (lowest rest)) u) ∙ m)) (low .0) (low .1)
+      size-less (difference rest (component gs live (lowest rest))) rest (lowest rest)
+      (λ u m. and-left (member rest u) _ (sym (member-difference rest (component gs live (lowest rest)) u) ∙ m)) (low .0) (low .1)
       (member-difference rest (component gs live (lowest rest)) (lowest rest) ∙ simp (low .1, component-self gs live tab (lowest rest) (low .0)))
 
   laying-turn : {after : List ℕ} → length after ≡ 32 → LaidOut gs (component gs live (lowest rest)) live top table after
@@ -76,7 +80,8 @@ module _ {gs : List ℕ} {live top all : ℕ} {before table : List ℕ} {rest : 
     within = λ u m. h .within u (left u m .0);
     closed = λ u v m a. put v (h .closed u v (left u m .0) a) (not-true-false (member part v) (λ p. clash (same u v m a p) (left u m .1)));
     done = λ u k m f s. ⊎-elim (λ (p : member part u ≡ true). o .inside u k p (le-trans laying-size s))
-        (λ (p : member part u ≡ false). o .outside u p ∙ h .done u k m (not-true-false (member rest u) (λ q. clash (put u q p) f)) s) (either (member part u));
+        (λ (p : member part u ≡ false). o .outside u p ∙ h .done u k m (not-true-false (member rest u) (λ q. clash (put u q p) f)) s)
+        (either (member part u));
     kept = λ u f. o .outside u (not-true-false (member part u) (λ p. clash (h .within u (part-in-rest u p)) f)) ∙ h .kept u f;
   }
     where
@@ -85,14 +90,18 @@ module _ {gs : List ℕ} {live top all : ℕ} {before table : List ℕ} {rest : 
 
       left : (u : ℕ) → member (difference rest part) u ≡ true → (member rest u ≡ true) × (member part u ≡ false)
       left u m =
-          let both = sym (member-difference rest part u) ∙ m in
-          (and-left (member rest u) (not (member part u)) both, false-of-not (member part u) (and-right (member rest u) (not (member part u)) both))
+          let both = sym (member-difference rest part u) ∙ m in (
+            and-left (member rest u) (not (member part u)) both,
+            false-of-not (member part u)
+                (and-right (member rest u) (not (member part u)) both),
+          )
 
       put : (u : ℕ) → member rest u ≡ true → member part u ≡ false → member (difference rest part) u ≡ true
       put u m f = member-difference rest part u ∙ and-both (member rest u) (not (member part u)) m (not-of-false (member part u) f)
 
       -- a unit whose component meets the part is in it
-      same : (u v : ℕ) → member (difference rest part) u ≡ true → member (component gs live u) v ≡ true → member part v ≡ true → member part u ≡ true
+      same : (u v : ℕ) → member (difference rest part) u ≡ true → member (component gs live u) v ≡ true → member part v ≡ true
+          → member part u ≡ true
       same u v m a p =
           let b = member-below 32 rest u (h .bounded) (left u m .0) in
           ap (λ (x : ℕ). member x u) (sym (component-same gs live tab (lowest rest) v (low .0) p) ∙ component-same gs live tab u v b a)
@@ -113,7 +122,8 @@ module _ {gs : List ℕ} {live top all : ℕ} {before table : List ℕ} {rest : 
   pub turn-less : {rest′ : ℕ} → rest′ ≡ difference rest part → size rest′ < size rest
   turn-less e = subst (λ (x : ℕ). size x < size rest) (ap (difference rest) this ∙ sym e) (laying-less tab h some)
 
-  pub turn-again : {rest′ : ℕ} {after : List ℕ} → rest′ ≡ difference rest part → length after ≡ 32 → LaidOut gs part live top table after → Laying gs live top all before after rest′
+  pub turn-again : {rest′ : ℕ} {after : List ℕ} → rest′ ≡ difference rest part → length after ≡ 32 → LaidOut gs part live top table after
+      → Laying gs live top all before after rest′
   turn-again {rest′} {after} e l o =
       subst (λ (x : ℕ). Laying gs live top all before after x) (ap (difference rest) this ∙ sym e)
       (laying-turn tab h some l (subst (λ (x : ℕ). LaidOut gs x live top table after) (sym this) o))
@@ -157,14 +167,16 @@ module _ {gs of : List ℕ} {part live : ℕ} (tab : Table gs) (small : part < 2
 
   -- the root has been set, and each smaller part is laid
   pub part-ends : {top rest : ℕ} {parents table : List ℕ} → length parents ≡ 32
-      → Laying gs (setAside gs live (root gs part)) (root gs part) (excluding part (root gs part)) (set parents (root gs part) top) table rest → rest ≡ 0
+      → Laying gs (setAside gs live (root gs part)) (root gs part) (excluding part (root gs part))
+      (set parents (root gs part) top) table rest → rest ≡ 0
       → LaidOut gs part live top parents table
   unfolding parentWithin
   part-ends {top} {rest} {parents} {table} l y e = record {
     inside = λ u k m s. by-cases (ℕ-discrete u (root gs part))
         (λ q. subst (λ (x : ℕ). getD table x 255 ≡ parentWithin k gs live top x) (sym q) (at-root k s))
         (λ q. below-root u k m q s);
-    outside = λ u f. y .kept u (not-true-false (member (excluding part (root gs part)) u) (λ a. clash (in-rest part (root gs part) u root-below a .0) f))
+    outside = λ u f. y .kept u (not-true-false (member (excluding part (root gs part)) u)
+        (λ a. clash (in-rest part (root gs part) u root-below a .0) f))
         ∙ getD-set-other parents (root gs part) u top 255 (λ q. clash (root-of-part .inside) (ap (member part) (sym q) ∙ f));
   }
     where
@@ -179,13 +191,15 @@ module _ {gs of : List ℕ} {part live : ℕ} (tab : Table gs) (small : part < 2
       at-root (suc k) s =
           y .kept r (not-true-false (member (excluding part r) r) (λ a. in-rest part r r root-below a .1 refl))
           ∙ getD-set-same parents r top 255 (subst (λ (x : ℕ). r < x) (sym l) root-below)
-          ∙ sym (cond-true (eqb r (root gs (component gs live r))) top _ (eq-eqb r (root gs (component gs live r)) (sym (found r (root-of-part .inside)))))
+          ∙ sym (cond-true (eqb r (root gs (component gs live r))) top _
+          (eq-eqb r (root gs (component gs live r)) (sym (found r (root-of-part .inside)))))
 
       below-root : (u k : ℕ) → member part u ≡ true → (u ≡ r → ⊥) → size part ≤ k → getD table u 255 ≡ parentWithin k gs live top u
       below-root u zero m q s = absurd (not-suc-le-zero (le-trans rest-smaller s))
       below-root u (suc k) m q s =
           y .done u k (rest-in part r u m q) (ap (λ (x : ℕ). member x u) e ∙ member-empty u) (le-of-suc-le-suc (le-trans rest-smaller s))
-          ∙ sym (cond-false (eqb u (root gs (component gs live u))) top (parentWithin k gs (setAside gs live (root gs (component gs live u))) (root gs (component gs live u)) u)
+          ∙ sym (cond-false (eqb u (root gs (component gs live u))) top
+          (parentWithin k gs (setAside gs live (root gs (component gs live u))) (root gs (component gs live u)) u)
           (ne-eqb u (root gs (component gs live u)) (λ z. q (z ∙ found u m)))
           ∙ ap (λ (x : ℕ). parentWithin k gs (setAside gs live x) x u) (found u m))
 
@@ -200,7 +214,8 @@ module _ {gs of : List ℕ} {part live r fewer all : ℕ} (tab : Table gs) (smal
 
   is-left : fewer ≡ setAside gs live (root gs part)
   unfolding setAside
-  is-left = left ∙ ap (λ (x : List ℕ). difference live (getD x r 0)) (h .table) ∙ ap (difference live) (getD-tabulate 32 (groupsOf gs) r 0 lay-below ∙ ap (groupsOf gs) is-root)
+  is-left = left ∙ ap (λ (x : List ℕ). difference live (getD x r 0)) (h .table) ∙ ap (difference live)
+      (getD-tabulate 32 (groupsOf gs) r 0 lay-below ∙ ap (groupsOf gs) is-root)
 
   are-others : all ≡ excluding part (root gs part)
   are-others = others ∙ ap (excluding part) is-root
@@ -211,20 +226,25 @@ module _ {gs of : List ℕ} {part live r fewer all : ℕ} (tab : Table gs) (smal
   pub lay-starts : {before : List ℕ} → length before ≡ 32 → Laying gs fewer r all before before all
   lay-starts l = rw (is-left, are-others) (rest-starts tab small h l)
 
-  pub lay-ends : {top rest : ℕ} {parents table : List ℕ} → length parents ≡ 32 → Laying gs fewer r all (set parents r top) table rest → rest ≡ 0 → LaidOut gs part live top parents table
+  pub lay-ends : {top rest : ℕ} {parents table : List ℕ} → length parents ≡ 32 → Laying gs fewer r all (set parents r top) table rest
+      → rest ≡ 0 → LaidOut gs part live top parents table
   lay-ends l y e = part-ends tab small h l (rw (is-left, are-others, is-root) at y) e
 
 -- ---- the whole bench
 
-pub all-starts : {gs before : List ℕ} {live all : ℕ} → Table gs → live ≡ below 24 → all ≡ below 32 → length before ≡ 32 → Laying gs live 255 all before before all
+pub all-starts : {gs before : List ℕ} {live all : ℕ} → Table gs → live ≡ below 24 → all ≡ below 32 → length before ≡ 32
+    → Laying gs live 255 all before before all
 all-starts {gs} tab e f l = rw (e, f) (laying-none l (below-below 32)
-    (λ u v m a. member-below-set 32 v ∙ simp (lt-ltb v 32 (member-below 32 (component gs (below 24) u) v (component-below gs (below 24) tab u) a))))
+    (λ u v m a. member-below-set 32 v ∙ simp
+    (lt-ltb v 32 (member-below 32 (component gs (below 24) u) v (component-below gs (below 24) tab u) a))))
 
-pub all-ends : {gs before table : List ℕ} {live all rest : ℕ} → live ≡ below 24 → all ≡ below 32 → Laying gs live 255 all before table rest → rest ≡ 0
+pub all-ends : {gs before table : List ℕ} {live all rest : ℕ} → live ≡ below 24 → all ≡ below 32 → Laying gs live 255 all before table rest
+    → rest ≡ 0
     → table ≡ tabulate 32 (builtParent gs)
 unfolding builtParent
 all-ends {gs} {before} {table} {live} {all} {rest} e f y z = tabulated 32 (builtParent gs) table 255 (y .long)
-    (λ u b. y .done u 32 (ap (λ (x : ℕ). member x u) f ∙ member-below-set 32 u ∙ simp (lt-ltb u 32 b)) (ap (λ (x : ℕ). member x u) z ∙ member-empty u) (size-below all)
+    (λ u b. y .done u 32 (ap (λ (x : ℕ). member x u) f ∙ member-below-set 32 u ∙ simp (lt-ltb u 32 b))
+    (ap (λ (x : ℕ). member x u) z ∙ member-empty u) (size-below all)
     ∙ ap (λ (x : ℕ). parentWithin 32 gs x 255 u) e)
 
 -- cut to n units, the layout of all is the built forest

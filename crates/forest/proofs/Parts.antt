@@ -11,8 +11,11 @@ use lib.ListN.{length, getD, List·getD-eq-default}
 use lib.Dec.{ltb, eqb}
 use borrow.Author.Tests.{lt-ltb, eq-eqb, ne-eqb, eqb-true}
 use Rattle.sets.specs.Sets.{member, single, union, intersection, size, lowest, below}
-use Rattle.sets.proofs.Bools.{clash, and-left, and-right, and-both, or-cases, or-left, or-right, not-of-false, false-of-not, same-test, cond-true}
-use Rattle.sets.proofs.Laws.{Subset, member-union, member-intersection, member-single, member-empty, member-below, member-below-set, same-members, union-below, single-below, size-grows, size-below, size-positive, not-empty, intersection-below, lowest-of-some}
+use Rattle.sets.proofs.Bools.{clash, and-left, and-right, and-both, or-cases, or-left, or-right, not-of-false, false-of-not}
+use Rattle.sets.proofs.Bools.{same-test, cond-true}
+use Rattle.sets.proofs.Laws.{Subset, member-union, member-intersection, member-single, member-empty, member-below}
+use Rattle.sets.proofs.Laws.{member-below-set, same-members, union-below, single-below, size-grows, size-below, size-positive}
+use Rattle.sets.proofs.Laws.{not-empty, intersection-below, lowest-of-some}
 use Rattle.forest.specs.Build.{Joined, itself, together, chain, absorbed, spread, rounds, component}
 
 -- 24 groups of 32 bits
@@ -23,12 +26,14 @@ pub record Table (gs : List ℕ) : Type 0 where
 -- a live group that holds one of the units `among` lies among them
 unfoldable pub Closed : List ℕ → ℕ → ℕ → Type 0
 Closed gs live among =
-    (i u v : ℕ) → member live i ≡ true → member (getD gs i 0) u ≡ true → member (getD gs i 0) v ≡ true → member among u ≡ true → member among v ≡ true
+    (i u v : ℕ) → member live i ≡ true → member (getD gs i 0) u ≡ true → member
+    (getD gs i 0) v ≡ true → member among u ≡ true → member among v ≡ true
 
 -- a place that holds a unit is below 24
 pub place-below : (gs : List ℕ) → Table gs → (i u : ℕ) → member (getD gs i 0) u ≡ true → i < 24
 place-below gs tab i u m = by-cases (decLt i 24) (λ h. h)
-    (λ h. absurd (clash m (ap (λ (x : ℕ). member x u) (List·getD-eq-default gs 0 (subst (λ (x : ℕ). x ≤ i) (sym (tab .long)) (omega arith))) ∙ member-empty u)))
+    (λ h. absurd (clash m (ap (λ (x : ℕ). member x u) (List·getD-eq-default gs 0 (subst (λ (x : ℕ). x ≤ i) (sym (tab .long)) (omega arith)))
+    ∙ member-empty u)))
 
 -- ---- joined
 
@@ -75,7 +80,8 @@ absorbs : (s g u : ℕ) (b : Bool) → b ≡ true → member s u ≡ true → me
 unfolding Subset absorbed
 absorbs s g u b hb hs hg v m =
     ap (λ (x : ℕ). member x v) (cond-true (b && not (eqb (intersection s g) 0)) (union s g) s
-    (and-both b (not (eqb (intersection s g) 0)) hb (not-of-false (eqb (intersection s g) 0) (ne-eqb (intersection s g) 0 (shared s g u hs hg)))))
+    (and-both b (not (eqb (intersection s g) 0)) hb
+    (not-of-false (eqb (intersection s g) 0) (ne-eqb (intersection s g) 0 (shared s g u hs hg)))))
     ∙ member-union s g v ∙ or-right (member s v) (member g v) m
 
 -- what is absorbed is in s, or is in a live group with a unit of s
@@ -89,9 +95,18 @@ absorbed-from s g v b h m = go (b && not (eqb (intersection s g) 0)) refl m
     go true e k = ⊎-elim (λ a. inl a)
         (λ (q : member g v ≡ true).
         let n = lowest-of-some (intersection s g) (intersection-below 32 s g h)
-        (λ z. clash (eq-eqb (intersection s g) 0 z) (false-of-not (eqb (intersection s g) 0) (and-right b (not (eqb (intersection s g) 0)) e))) in
+        (λ z. clash (eq-eqb (intersection s g) 0 z)
+        (false-of-not (eqb (intersection s g) 0) (and-right b (not (eqb (intersection s g) 0)) e))) in
         let i = sym (member-intersection s g (lowest (intersection s g))) ∙ n .1 in
-        inr (lowest (intersection s g), and-left b (not (eqb (intersection s g) 0)) e, and-left (member s (lowest (intersection s g))) (member g (lowest (intersection s g))) i, and-right (member s (lowest (intersection s g))) (member g (lowest (intersection s g))) i, q))
+        inr (
+          lowest (intersection s g),
+          and-left b (not (eqb (intersection s g) 0)) e,
+          and-left (member s (lowest (intersection s g)))
+              (member g (lowest (intersection s g))) i,
+          and-right (member s (lowest (intersection s g)))
+              (member g (lowest (intersection s g))) i,
+          q,
+        ))
         (or-cases (member s v) (member g v) (sym (member-union s g v) ∙ k))
     go false e k = inl k
 
@@ -133,7 +148,8 @@ module _ (gs : List ℕ) (live : ℕ) where
     rounds-grows (suc k) s u m = rounds-grows k (spread 24 gs live s) u (spread-grows 24 s u m)
 
     -- after k rounds nothing more is added, or each round has added a unit
-    rounds-end : (k s : ℕ) → s < 2 ^ 32 → (spread 24 gs live (rounds k gs live s) ≡ rounds k gs live s) ⊎ (k + size s ≤ size (rounds k gs live s))
+    rounds-end : (k s : ℕ) → s < 2 ^ 32
+        → (spread 24 gs live (rounds k gs live s) ≡ rounds k gs live s) ⊎ (k + size s ≤ size (rounds k gs live s))
     unfolding rounds
     rounds-end zero s h = inr (omega arith)
     rounds-end (suc k) s h = by-cases (ℕ-discrete (spread 24 gs live s) s)
@@ -183,7 +199,8 @@ module _ (gs : List ℕ) (live : ℕ) where
     pub component-closed : (u : ℕ) → u < 32 → Closed gs live (component gs live u)
     unfolding component
     component-closed u h = ⊎-elim (fixed-closed (rounds 32 gs live (single u)))
-        (λ l. absurd (lt-irrefl 32 (let z : 32 < 32 = omega (arith, size-positive (single u) u h (in-single u h), size-below (rounds 32 gs live (single u))) in z)))
+        (λ l. absurd (lt-irrefl 32 (let z : 32 < 32 = omega
+        (arith, size-positive (single u) u h (in-single u h), size-below (rounds 32 gs live (single u))) in z)))
         (rounds-end 32 (single u) (single-below u))
 
     module _ (among : ℕ) (closed : Closed gs live among) where
@@ -204,7 +221,8 @@ all-closed gs live tab i u v l a b m =
     member-below-set 32 v ∙ simp (lt-ltb v 32 (member-below 32 (getD gs i 0) v (tab .bounded i) b))
 
 -- a component is the component of each of its units
-pub component-same : (gs : List ℕ) (live : ℕ) → Table gs → (u v : ℕ) → u < 32 → member (component gs live u) v ≡ true → component gs live v ≡ component gs live u
+pub component-same : (gs : List ℕ) (live : ℕ) → Table gs → (u v : ℕ) → u < 32 → member (component gs live u) v ≡ true
+    → component gs live v ≡ component gs live u
 component-same gs live tab u v h m =
     let all = all-closed gs live tab in
     let j = component-joined gs live tab (below 32) all u v (member-below-set 32 u ∙ simp (lt-ltb u 32 h)) m in

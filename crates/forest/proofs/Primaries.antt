@@ -12,10 +12,12 @@ use lib.Dec.{ltb, lit≤}
 use lib.Count.{trailing-of-zero}
 use lib.ListN.{getD}
 use Rattle.sets.specs.Sets.{member, intersection, lowest}
-use Rattle.sets.proofs.Bools.{either, clash, not-true-false, and-left, and-right, and-both, or-left, or-right, or-cases, false-of-not, not-of-false}
+use Rattle.sets.proofs.Bools.{either, clash, not-true-false, and-left, and-right, and-both, or-left, or-right, or-cases}
+use Rattle.sets.proofs.Bools.{false-of-not, not-of-false}
 use Rattle.sets.proofs.Laws.{member-empty, member-intersection, member-union, member-collect, member-below, member-below-set}
 use Rattle.sets.proofs.Laws.{intersection-below, below-is, lowest-least, lowest-of-some, collect-none, none-collect}
-use Rattle.forest.specs.Forest.{parent, ancestors, above, aboveEvery, aboveSome, primary, hasPrimary, onRoute, route, lacksPrimary, withoutPrimary}
+use Rattle.forest.specs.Forest.{parent, ancestors, above, aboveEvery, aboveSome, primary, hasPrimary, onRoute, route}
+use Rattle.forest.specs.Forest.{lacksPrimary, withoutPrimary}
 use Rattle.forest.proofs.Ancestry.{above-unit, above-trans, above-antisym, above-sound, above-complete}
 use Rattle.forest.specs.Claims.{Above, itself, over, Acyclic, IsPrimary, OnWay}
 
@@ -118,7 +120,8 @@ route-has ps g u w =
     let m = w .member-below in
     member-collect 32 (onRoute ps (primary ps g) (aboveSome 32 ps g)) u (lit≤ tt)
     ∙ and-both (ltb u 32) _ (lt-ltb u 32 (above-unit top .1))
-    (and-both (above ps (primary ps g) u) _ (above-complete ps (primary ps g) u top) (some-complete 32 ps g u (m .0) (above-unit (m .2) .1) (m .1) (m .2)))
+    (and-both (above ps (primary ps g) u) _ (above-complete ps (primary ps g) u top)
+    (some-complete 32 ps g u (m .0) (above-unit (m .2) .1) (m .1) (m .2)))
 
 pub members-on-route : (ps : List ℕ) (g m : ℕ) → g < 2 ^ 32 → hasPrimary ps g ≡ true → member g m ≡ true → member (route ps g) m ≡ true
 members-on-route ps g m b h i =

@@ -35,7 +35,8 @@ module _ (deg : ℕ → ℕ) (s : ℕ) where
   searched : (k : ℕ) → k ≤ 32 → Search deg s k (largestWithin k deg s)
   unfolding largestWithin betterOf
   searched zero h = inl (refl, λ u b m. not-suc-le-zero b)
-  searched (suc k) h = go (largestWithin k deg s) (searched k (le-trans (le-suc k) h)) (either (member s k)) (either (ltb (deg (largestWithin k deg s)) (deg k)))
+  searched (suc k) h = go (largestWithin k deg s) (searched k (le-trans (le-suc k) h)) (either (member s k))
+      (either (ltb (deg (largestWithin k deg s)) (deg k)))
     where
       Next : ℕ → Type 0
       Next r = Search deg s (suc k) (cond (member s k && (eqb r 32 || ltb (deg r) (deg k))) k r)
@@ -49,21 +50,28 @@ module _ (deg : ℕ → ℕ) (s : ℕ) where
       go : (r : ℕ) → Search deg s k r → (member s k ≡ true) ⊎ (member s k ≡ false)
           → (ltb (deg r) (deg k) ≡ true) ⊎ (ltb (deg r) (deg k) ≡ false) → Next r
       go r (inl n) (inl m) l = taken r (simp (m, eq-eqb r 32 (n .0)))
-          (record { low = lt-suc-self k; inside = m; most = below-suc (λ u. member s u ≡ true → Behind deg k u) k (λ u b a. absurd (n .1 u b a)) (λ a. inr (refl, le-refl k)) })
+          (record {
+            low = lt-suc-self k;
+            inside = m;
+            most = below-suc (λ u. member s u ≡ true → Behind deg k u) k
+                (λ u b a. absurd (n .1 u b a)) (λ a. inr (refl, le-refl k));
+          })
       go r (inl n) (inr m) l = left r (simp m) (inl (n .0, below-suc (λ u. member s u ≡ true → ⊥) k (n .1) (λ a. clash a m)))
       go r (inr f) (inl m) (inl l) = taken r (simp (m, l) (or-true (eqb r 32)))
           (record {
             low = lt-suc-self k;
             inside = m;
             most = below-suc (λ u. member s u ≡ true → Behind deg k u) k
-                (λ u b a. inl (⊎-elim (λ (p : deg u < deg r). let q = ltb-true (deg r) (deg k) l in omega arith) (λ p. let d = p .0 in let q = ltb-true (deg r) (deg k) l in omega arith) (f .most u b a)))
+                (λ u b a. inl (⊎-elim (λ (p : deg u < deg r). let q = ltb-true (deg r) (deg k) l in omega arith)
+                (λ p. let d = p .0 in let q = ltb-true (deg r) (deg k) l in omega arith) (f .most u b a)))
                 (λ a. inr (refl, le-refl k));
           })
       go r (inr f) (inl m) (inr l) = left r (simp (m, l, ne-eqb r 32 (λ z. let b = f .low in lt-irrefl 32 (omega arith)))) (inr (record {
         low = le-trans (f .low) (le-suc k);
         inside = f .inside;
         most = below-suc (λ u. member s u ≡ true → Behind deg r u) k (f .most)
-            (λ a. let q = ltb-false (deg r) (deg k) l in let b = f .low in by-cases (ℕ-discrete (deg k) (deg r)) (λ z. inr (z, omega arith)) (λ z. inl (omega arith)));
+            (λ a. let q = ltb-false (deg r) (deg k) l in let b = f .low in by-cases (ℕ-discrete (deg k) (deg r)) (λ z. inr (z, omega arith))
+            (λ z. inl (omega arith)));
       }))
       go r (inr f) (inr m) l = left r (simp m) (inr (record {
         low = le-trans (f .low) (le-suc k);
@@ -76,7 +84,11 @@ pub root-is : (gs : List ℕ) (s u : ℕ) → s < 2 ^ 32 → member s u ≡ true
 unfolding root
 root-is gs s u h m = ⊎-elim
     (λ n. absurd (n .1 u (member-below 32 s u h m) m))
-    (λ (f : Found (degree gs) s 32 (largestWithin 32 (degree gs) s)). record { inside = f .inside; most = λ v a. f .most v (member-below 32 s v h a) a })
+    (λ (f : Found (degree gs) s 32 (largestWithin 32 (degree gs) s)). record {
+      inside = f .inside;
+      most = λ v a. f .most v
+          (member-below 32 s v h a) a;
+    })
     (searched (degree gs) s 32 (le-refl 32))
 
 pub root-unique : (gs : List ℕ) (s q r : ℕ) → IsRoot gs s q → IsRoot gs s r → q ≡ r

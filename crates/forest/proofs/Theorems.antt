@@ -12,16 +12,21 @@ use lib.Dec.{ltb, leb, eqb, lit≤}
 use borrow.Author.Tests.{lt-ltb, le-ltb, ltb-true, ltb-false, lt-leb, le-leb, eq-eqb, eqb-true, eqb-false, ne-eqb}
 use Rattle.sets.specs.Sets.{member, difference, lowest, below}
 use Rattle.sets.proofs.Bools.{either, clash, and-left, and-right, and-both, not-of-false, cond-false}
-use Rattle.sets.proofs.Laws.{member-difference, member-below-set, lowest-of-some, not-empty, below-below, difference-none, collect-none, none-collect}
+use Rattle.sets.proofs.Laws.{member-difference, member-below-set, lowest-of-some, not-empty, below-below, difference-none}
+use Rattle.sets.proofs.Laws.{collect-none, none-collect}
 use Rattle.forest.specs.Forest.{parent, hasPrimary, cyclicUnits, withoutPrimary, accepted}
 use Rattle.forest.specs.Build.{builtParent, built}
-use Rattle.forest.specs.Calls.{countedAt, counted, drawnAt, drawn, badCounts, emptyAt, emptyGroups, outsideAt, outsideGroups, outsideParent, outsideParents, refuse, groupsRefusal, drawingRefusal, orRoots, buildRefusal, buildParents, checkRefusal, checkParents}
+use Rattle.forest.specs.Calls.{countedAt, counted, drawnAt, drawn, badCounts, emptyAt, emptyGroups, outsideAt}
+use Rattle.forest.specs.Calls.{outsideGroups, outsideParent, outsideParents, refuse, groupsRefusal, drawingRefusal, orRoots}
+use Rattle.forest.specs.Calls.{buildRefusal, buildParents, checkRefusal, checkParents}
 use Rattle.forest.specs.Claims.{Within, AcceptedForest, LaidByRule, ComponentsAreParts}
 use Rattle.forest.proofs.Tables.{length-tabulate, getD-tabulate, getD-past, same-tables}
 use Rattle.forest.proofs.Shared.{no-difference, groups-rest}
 use Rattle.forest.proofs.Ancestry.{acyclic-of, of-acyclic, ends-at-root}
-use Rattle.forest.proofs.Primaries.{primary-is, primary-unique, on-route, route-has, members-on-route, parent-on-route, without-primary-none, none-without-primary}
-use Rattle.forest.proofs.Laid.{Bench, in-rest, root-small, bench-part, bench-component, rest-part, rest-component, laid-facts, rule-part, laid-once, lonely-root, lonely-childless}
+use Rattle.forest.proofs.Primaries.{primary-is, primary-unique, on-route, route-has, members-on-route, parent-on-route}
+use Rattle.forest.proofs.Primaries.{without-primary-none, none-without-primary}
+use Rattle.forest.proofs.Laid.{Bench, in-rest, root-small, bench-part, bench-component, rest-part, rest-component}
+use Rattle.forest.proofs.Laid.{laid-facts, rule-part, laid-once, lonely-root, lonely-childless}
 use Rattle.forest.proofs.Accepted.{built-acyclic, built-within, built-primary}
 
 -- ---- what an unrefused input is
@@ -111,7 +116,8 @@ good-groups n c gs rest e = groups-rest n c gs rest [] (sym e)
 
 -- ---- what an unrefused drawing is
 
-parents-good : (n c : ℕ) (gs ps : List ℕ) → drawingRefusal n c gs ps ≡ [] → (outsideParents n ps ≡ 0) × (cyclicUnits ps ≡ 0) × (withoutPrimary c gs ps ≡ 0)
+parents-good : (n c : ℕ) (gs ps : List ℕ) → drawingRefusal n c gs ps ≡ []
+    → (outsideParents n ps ≡ 0) × (cyclicUnits ps ≡ 0) × (withoutPrimary c gs ps ≡ 0)
 unfolding drawingRefusal
 parents-good n c gs ps e =
     let six = refuse-none (not (eqb (outsideParents n ps) 0)) 6 _ _ e in
@@ -119,7 +125,8 @@ parents-good n c gs ps e =
     let eleven = refuse-none (not (eqb (withoutPrimary c gs ps) 0)) 11 _ _ (ten .1) in
     (zero-set _ (six .0), zero-set _ (ten .0), zero-set _ (eleven .0))
 
-good-parents : (n c : ℕ) (gs ps : List ℕ) → outsideParents n ps ≡ 0 → cyclicUnits ps ≡ 0 → withoutPrimary c gs ps ≡ 0 → drawingRefusal n c gs ps ≡ []
+good-parents : (n c : ℕ) (gs ps : List ℕ) → outsideParents n ps ≡ 0 → cyclicUnits ps ≡ 0 → withoutPrimary c gs ps ≡ 0
+    → drawingRefusal n c gs ps ≡ []
 unfolding drawingRefusal refuse
 good-parents n c gs ps six ten eleven = simp (six, ten, eleven)
 
@@ -151,7 +158,8 @@ components-are-parts n c gs e =
           let f = laid-facts n (counted c gs) bench l in
           let i = in-rest s r u (root-small n (counted c gs) bench s live r f (q .inside)) m in
           rest-part n (counted c gs) bench s live r f (q .inside) u (i .0) (i .1);
-      smaller-only = λ {s} {live} {top} {r} l q p. rest-component n (counted c gs) bench s live r (laid-facts n (counted c gs) bench l) (q .inside) p;
+      smaller-only = λ {s} {live} {top} {r} l q p. rest-component n (counted c gs) bench s live r (laid-facts n (counted c gs) bench l)
+          (q .inside) p;
     }
 
 -- ---- a built forest is always accepted
@@ -159,7 +167,8 @@ components-are-parts n c gs e =
 same-cut : (n : ℕ) (gs : List ℕ) → drawn n (built n gs) ≡ built n gs
 unfolding drawn drawnAt built
 same-cut n gs = same-tables 32 (drawnAt n (built n gs)) (λ u. cond (ltb u n) (builtParent gs u) 255)
-    (λ u b. ap (λ (x : ℕ). cond (ltb u n) x 255) (getD-tabulate 32 (λ v. cond (ltb v n) (builtParent gs v) 255) u 255 b) ∙ twice (ltb u n) (builtParent gs u))
+    (λ u b. ap (λ (x : ℕ). cond (ltb u n) x 255) (getD-tabulate 32 (λ v. cond (ltb v n) (builtParent gs v) 255) u 255 b) ∙ twice (ltb u n)
+    (builtParent gs u))
   where
     twice : (b : Bool) (x : ℕ) → cond b (cond b x 255) 255 ≡ cond b x 255
     twice true x = refl
@@ -175,7 +184,8 @@ within-good n ps h = none-collect 32 (outsideParent n ps) (λ u b. ⊎-elim
 
 built-refusal : (n c : ℕ) (gs : List ℕ) → GoodGroups n c gs → drawingRefusal n c gs (built n gs) ≡ []
 built-refusal n c gs good =
-    good-parents n c gs (built n gs) (within-good n (built n gs) (built-within n gs (good .bench))) (of-acyclic (built n gs) (built-acyclic n gs (good .bench)))
+    good-parents n c gs (built n gs) (within-good n (built n gs) (built-within n gs (good .bench)))
+    (of-acyclic (built n gs) (built-acyclic n gs (good .bench)))
     (none-without-primary c gs (built n gs) (λ i b l. let w = good .filled i b in built-primary n gs (good .bench) i (w .0) (w .1)))
 
 -- `check` accepts what `build` answers, and answers it unchanged
@@ -245,12 +255,14 @@ build-forest n c gs e =
 
 -- Where groups and parents are good, a drawing is accepted exactly when no unit is its own ancestor and every group has a primary.
 pub accepted-exactly : (n c : ℕ) (gs ps : List ℕ) → groupsRefusal n c (counted c gs) [] ≡ [] → outsideParents n (drawn n ps) ≡ 0
-    → (checkRefusal n c gs ps ≡ [] → accepted c (counted c gs) (drawn n ps) ≡ true) × (accepted c (counted c gs) (drawn n ps) ≡ true → checkRefusal n c gs ps ≡ [])
+    → (checkRefusal n c gs ps ≡ [] → accepted c (counted c gs) (drawn n ps) ≡ true) × (accepted c (counted c gs)
+    (drawn n ps) ≡ true → checkRefusal n c gs ps ≡ [])
 unfolding checkRefusal accepted
 accepted-exactly n c gs ps e six = (
   λ h.
       let faultless = parents-good n c (counted c gs) (drawn n ps) (groups-good n c gs _ h .1) in
-      and-both (eqb (cyclicUnits (drawn n ps)) 0) (eqb (withoutPrimary c (counted c gs) (drawn n ps)) 0) (eq-eqb _ 0 (faultless .1)) (eq-eqb _ 0 (faultless .2)),
+      and-both (eqb (cyclicUnits (drawn n ps)) 0) (eqb (withoutPrimary c (counted c gs) (drawn n ps)) 0) (eq-eqb _ 0 (faultless .1))
+      (eq-eqb _ 0 (faultless .2)),
   λ a. good-groups n c (counted c gs) _ e ∙ good-parents n c (counted c gs) (drawn n ps) six
       (eqb-true _ 0 (and-left (eqb (cyclicUnits (drawn n ps)) 0) (eqb (withoutPrimary c (counted c gs) (drawn n ps)) 0) a))
       (eqb-true _ 0 (and-right (eqb (cyclicUnits (drawn n ps)) 0) (eqb (withoutPrimary c (counted c gs) (drawn n ps)) 0) a)),

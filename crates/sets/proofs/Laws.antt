@@ -3,7 +3,8 @@ use mathlib.Core.Path.{_≡_, refl, sym, ap, ap₂, subst, _∙_}
 use mathlib.Core.Logic.{_⊎_, inl, inr, ⊎-elim, by-cases}
 use mathlib.Core.Bool.{Bool, true, false, not, _&&_, _||_, cond, or-false, and-false, and-true}
 use Prim.Native.Nat.{ℕ, zero, suc, _+_, _-_, _*_, _/_, _%_, _^_, _≤_, _<_, min, max, zero-le, suc-le-suc}
-use native.Mathlib.Nat.{div-one, div-div-eq-div-mul, pow-suc, mul-comm, mod-lt, le-of-suc-le-suc, zero-lt-suc, not-suc-le-zero, lt-of-le-of-lt, le-trans, zero-div, one-mul, mod-eq-of-lt, le-suc, le-of-eq, le-refl}
+use native.Mathlib.Nat.{div-one, div-div-eq-div-mul, pow-suc, mul-comm, mod-lt, le-of-suc-le-suc, zero-lt-suc, not-suc-le-zero}
+use native.Mathlib.Nat.{lt-of-le-of-lt, le-trans, zero-div, one-mul, mod-eq-of-lt, le-suc, le-of-eq, le-refl}
 use native.Mathlib.Omega.{arith}
 use native.Mathlib.Decide.{ℕ-discrete, decLt}
 use borrow.Author.Tests.{lt-ltb, le-ltb, eq-eqb, ne-eqb, eqb-true, ltb-true}
@@ -12,8 +13,10 @@ use lib.Arith.{lt-one, lt-of-le-ne}
 use lib.Pow.{pow-pos, pow-mono, pow-lt}
 use lib.Bits.{bitAnd, bitOr, and-step, or-step, and-le-l, and-le-r, or-lt}
 use lib.Count.{onesIn, ones, ones-step, ones-ones, trailingZeros, under}
-use Rattle.sets.specs.Sets.{member, single, union, intersection, difference, including, excluding, size, lowest, includingIf, collect, below}
-use Rattle.sets.proofs.Bools.{either, clash, and-left, and-right, and-both, not-of-false, false-of-not, not-true-false, same-test, cond-true, cond-false}
+use Rattle.sets.specs.Sets.{member, single, union, intersection, difference, including, excluding, size, lowest}
+use Rattle.sets.specs.Sets.{includingIf, collect, below}
+use Rattle.sets.proofs.Bools.{either, clash, and-left, and-right, and-both, not-of-false, false-of-not, not-true-false}
+use Rattle.sets.proofs.Bools.{same-test, cond-true, cond-false}
 
 -- ---- digits
 
@@ -70,7 +73,8 @@ unfolding union
 member-union s t u =
     member-op bitOr (λ a b. a || b)
     (λ s t. let e = or-step s t in let a = two-digits s in let b = two-digits t in omega arith)
-    (λ s t. on-digits max (λ a b. a || b) (bitOr s t) s t (let e = or-step s t in let a = mod-lt s (zero-lt-suc 1) in let b = mod-lt t (zero-lt-suc 1) in omega arith) refl refl refl refl)
+    (λ s t. on-digits max (λ a b. a || b) (bitOr s t) s t
+    (let e = or-step s t in let a = mod-lt s (zero-lt-suc 1) in let b = mod-lt t (zero-lt-suc 1) in omega arith) refl refl refl refl)
     u s t
 
 pub member-intersection : (s t u : ℕ) → member (intersection s t) u ≡ (member s u && member t u)
@@ -78,7 +82,8 @@ unfolding intersection
 member-intersection s t u =
     member-op bitAnd (λ a b. a && b)
     (λ s t. let e = and-step s t in let a = mod-lt s (zero-lt-suc 1) in let b = mod-lt t (zero-lt-suc 1) in omega arith)
-    (λ s t. on-digits min (λ a b. a && b) (bitAnd s t) s t (let e = and-step s t in let a = mod-lt s (zero-lt-suc 1) in let b = mod-lt t (zero-lt-suc 1) in omega arith) refl refl refl refl)
+    (λ s t. on-digits min (λ a b. a && b) (bitAnd s t) s t
+    (let e = and-step s t in let a = mod-lt s (zero-lt-suc 1) in let b = mod-lt t (zero-lt-suc 1) in omega arith) refl refl refl refl)
     u s t
 
 pub member-difference : (s t u : ℕ) → member (difference s t) u ≡ (member s u && not (member t u))
@@ -86,7 +91,8 @@ unfolding difference intersection
 member-difference s t u =
     member-op difference (λ a b. a && not b)
     (λ s t. let e = and-step s t in let l = and-le-l (s / 2) (t / 2) in omega arith)
-    (λ s t. on-digits (λ a b. a - min a b) (λ a b. a && not b) (difference s t) s t (let e = and-step s t in let l = and-le-l (s / 2) (t / 2) in omega arith) refl refl refl refl)
+    (λ s t. on-digits (λ a b. a - min a b) (λ a b. a && not b) (difference s t) s t
+    (let e = and-step s t in let l = and-le-l (s / 2) (t / 2) in omega arith) refl refl refl refl)
     u s t
 
 pub member-empty : (u : ℕ) → member 0 u ≡ false
@@ -114,8 +120,10 @@ single-shift u h = shift-one u h ∙ sym (cond-true (ltb u 32) (2 ^ u) 0 (lt-ltb
 pub member-single : (u v : ℕ) → member (single u) v ≡ (ltb u 32 && eqb u v)
 unfolding single
 member-single u v = ⊎-elim
-    (λ (h : ltb u 32 ≡ true). ap (λ (x : ℕ). member x v) (cond-true (ltb u 32) (2 ^ u) 0 h) ∙ member-power u v ∙ ap (λ (b : Bool). b && eqb u v) (sym h))
-    (λ (h : ltb u 32 ≡ false). ap (λ (x : ℕ). member x v) (cond-false (ltb u 32) (2 ^ u) 0 h) ∙ member-empty v ∙ ap (λ (b : Bool). b && eqb u v) (sym h))
+    (λ (h : ltb u 32 ≡ true). ap (λ (x : ℕ). member x v) (cond-true (ltb u 32) (2 ^ u) 0 h) ∙ member-power u v ∙ ap
+    (λ (b : Bool). b && eqb u v) (sym h))
+    (λ (h : ltb u 32 ≡ false). ap (λ (x : ℕ). member x v) (cond-false (ltb u 32) (2 ^ u) 0 h) ∙ member-empty v ∙ ap
+    (λ (b : Bool). b && eqb u v) (sym h))
     (either (ltb u 32))
 
 pub member-including : (s u v : ℕ) → member (including s u) v ≡ (member s v || ltb u 32 && eqb u v)
@@ -244,7 +252,8 @@ below-is n h = same-members 32 (2 ^ n - 1) (below n) (let p : 2 ^ n ≤ 2 ^ 32 =
 -- no set has a member from 32 on
 pub below-all : (n : ℕ) → 32 ≤ n → below 32 ≡ below n
 below-all n h = same-members 32 (below 32) (below n) (below-below 32) (below-below n)
-    (λ u b. member-below-set 32 u ∙ simp (lt-ltb u 32 b) (sym (lt-ltb u n (le-trans b h))) ∙ sym (member-below-set n u ∙ ap (λ (x : Bool). x && ltb u n) (lt-ltb u 32 b)))
+    (λ u b. member-below-set 32 u ∙ simp (lt-ltb u 32 b) (sym (lt-ltb u n (le-trans b h))) ∙ sym
+    (member-below-set n u ∙ ap (λ (x : Bool). x && ltb u n) (lt-ltb u 32 b)))
 
 -- ---- how many members
 
@@ -327,7 +336,8 @@ size-positive s u h m = has-ones 32 s u h m
 -- a set with fewer members: all of s are in t, and u is in t alone
 pub size-less : (s t u : ℕ) → Subset s t → u < 32 → member t u ≡ true → member s u ≡ false → size s < size t
 size-less s t u h b m n =
-    let in-rest : member (difference t s) u ≡ true = member-difference t s u ∙ and-both (member t u) (not (member s u)) m (not-of-false (member s u) n) in
+    let in-rest : member (difference t s) u ≡ true = member-difference t s u ∙ and-both (member t u) (not (member s u)) m
+    (not-of-false (member s u) n) in
     omega (arith, size-difference t s h, size-positive (difference t s) u b in-rest)
 
 pub size-excluding : (s u : ℕ) → u < 32 → member s u ≡ true → size (excluding s u) < size s
@@ -364,7 +374,8 @@ lowest-in (suc k) s zero h m =
     subst (λ (l : ℕ). Lowest (suc k) s l 0) (sym e) (record { low = zero-le; found = m })
 lowest-in (suc k) s (suc u) h m = go (two-digits s) (lowest-in k (s / 2) u (le-of-suc-le-suc h) (sym (member-suc s u) ∙ m))
   where
-    go : (s % 2 ≡ 0) ⊎ (s % 2 ≡ 1) → Lowest k (s / 2) (trailingZeros k (s / 2)) u → Lowest (suc k) s (under (s % 2) (trailingZeros k (s / 2))) (suc u)
+    go : (s % 2 ≡ 0) ⊎ (s % 2 ≡ 1) → Lowest k (s / 2) (trailingZeros k (s / 2)) u
+        → Lowest (suc k) s (under (s % 2) (trailingZeros k (s / 2))) (suc u)
     go (inl d) r = subst (λ (x : ℕ). Lowest (suc k) s (under x (trailingZeros k (s / 2))) (suc u)) (sym d)
         (record { low = suc-le-suc (r .low); found = member-suc s (trailingZeros k (s / 2)) ∙ r .found })
     go (inr d) r = subst (λ (x : ℕ). Lowest (suc k) s (under x (trailingZeros k (s / 2))) (suc u)) (sym d)
@@ -383,7 +394,8 @@ some-member : (k s : ℕ) → s < 2 ^ k → (s ≡ 0 → ⊥) → (u : ℕ) × (
 some-member zero s h n = absurd (n (lt-one h))
 some-member (suc k) s h n = go (two-digits s) (λ (f : s / 2 ≡ 0 → ⊥). some-member k (s / 2) (half-below k s h) f)
   where
-    go : (s % 2 ≡ 0) ⊎ (s % 2 ≡ 1) → ((s / 2 ≡ 0 → ⊥) → (u : ℕ) × (u < k) × (member (s / 2) u ≡ true)) → (u : ℕ) × (u < suc k) × (member s u ≡ true)
+    go : (s % 2 ≡ 0) ⊎ (s % 2 ≡ 1) → ((s / 2 ≡ 0 → ⊥) → (u : ℕ) × (u < k) × (member (s / 2) u ≡ true))
+        → (u : ℕ) × (u < suc k) × (member s u ≡ true)
     go (inl d) rest = let r = rest (λ e. n (let z : s ≡ 0 = omega arith in z)) in (suc (r .0), suc-le-suc (r .1), member-suc s (r .0) ∙ r .2)
     go (inr d) rest = (0, zero-lt-suc k, member-zero s ∙ ap (λ (x : ℕ). eqb x 1) d)
 

@@ -28,7 +28,8 @@ returns c =
     let counts = c .before .before .before .before .counted .ensures in
     let judges = c .before .before .before .judge .ensures in
     let lays : c .before .drawn .result ≡ built (a .units) (counted (a .count) (a .groups)) =
-    c .before .drawn .ensures ∙ ap (drawn (a .units)) (c .before .before .layout .ensures) ∙ cut-layout (a .units) (c .before .before .before .before .counted .result)
+    c .before .drawn .ensures ∙ ap (drawn (a .units)) (c .before .before .layout .ensures) ∙ cut-layout (a .units)
+    (c .before .before .before .before .counted .result)
     ∙ ap (built (a .units)) counts in
     let answers = c .answered .ensures in
     (rw (← counts, answers .0) judges, rw (← lays, ← counts, ← judges) (answers .1))

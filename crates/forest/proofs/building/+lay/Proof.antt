@@ -19,7 +19,8 @@ use mir.Syntax.{w32}
 use mir.Val.{Fits}
 use Rattle.sets.specs.Sets.{size}
 use Rattle.forest.proofs.Parts.{Table}
-use Rattle.forest.proofs.Laying.{Laying, turn-layable, turn-size, turn-less, turn-again, lay-below as root-small, lay-smaller, lay-starts, lay-ends}
+use Rattle.forest.proofs.Laying.{Laying, turn-layable, turn-size, turn-less, turn-again, lay-below as root-small}
+use Rattle.forest.proofs.Laying.{lay-smaller, lay-starts, lay-ends}
 
 -- the number of units in the part falls
 abbrev μ-lay : Measures 0 lay-kinds.ps ℕ
@@ -83,7 +84,8 @@ lay-loop-holds : (t : ℕ) → lay-lts.Need-loop-holds (claims t) (lay-at t) lay
 lay-loop-holds t c =
     let start = c .before .before .before in
     let l : length (start .args .parents) ≡ 32 = search needs in
-    lay-starts (good-table t start) (start .fits .part .fits) (start .pre .1) (c .before .before .root .ensures) (c .before .difference .ensures) (c .excluding .ensures)
+    lay-starts (good-table t start) (start .fits .part .fits) (start .pre .1) (c .before .before .root .ensures)
+    (c .before .difference .ensures) (c .excluding .ensures)
     (length-set (start .args .parents) (c .before .before .root .result) (start .args .top) ∙ l)
 
 lay-lowest-requires : (t : ℕ) → lay-lts.Need-lowest-requires (claims t) (lay-at t) lay.Post lay-Inv-loop lay-μ-loop
@@ -104,8 +106,12 @@ lay-lay-requires t c κs =
     let smaller : size (c .component .result) ≤ size (out .excluding .result) =
     turn-size tab (turn .before .loop .inv) (turn .loop-test .taken) (c .before .lowest .ensures) (c .component .ensures) in
     let falls : size (out .excluding .result) < size (start .args .part) =
-    lay-smaller tab (start .fits .part .fits) (start .pre .1) (out .before .before .root .ensures) (out .before .difference .ensures) (out .excluding .ensures) in
-    (omega (arith, start .pre .0), turn-layable tab (turn .before .loop .inv) (turn .loop-test .taken) (c .before .lowest .ensures) (c .component .ensures) (start .pre .1 .table))
+    lay-smaller tab (start .fits .part .fits) (start .pre .1) (out .before .before .root .ensures) (out .before .difference .ensures)
+    (out .excluding .ensures) in (
+      omega (arith, start .pre .0),
+      turn-layable tab (turn .before .loop .inv) (turn .loop-test .taken) (c .before .lowest .ensures)
+          (c .component .ensures) (start .pre .1 .table),
+    )
 
 lay-difference-requires-2 : (t : ℕ) → lay-lts.Need-difference-requires-2 (claims t) (lay-at t) lay.Post lay-Inv-loop lay-μ-loop
 lay-difference-requires-2 t c κs = search needs
@@ -128,7 +134,8 @@ lay-returns t c =
     let out = c .before .before in
     let start = out .before .before .before in
     let l : length (start .args .parents) ≡ 32 = search needs in
-    lay-ends (good-table t start) (start .fits .part .fits) (start .pre .1) (out .before .before .root .ensures) (out .before .difference .ensures) (out .excluding .ensures)
+    lay-ends (good-table t start) (start .fits .part .fits) (start .pre .1) (out .before .before .root .ensures)
+    (out .before .difference .ensures) (out .excluding .ensures)
     l (c .before .loop .inv) (c .loop-test .left)
 
 pub +lay-spec : {M : Type 1} → statement M

@@ -26,14 +26,24 @@ unfolding betterOf
 returns-2 c =
     let a = c .before .before .before .before .before .before .args in
     let h : degreeIn (a .of) (a .r) < degreeIn (a .of) (a .k) = omega arith in
-    simp (sym (c .before .before .before .before .before .member .ensures) ∙ c .before .before .before .before .if1 .taken, ne-eqb _ _ (c .before .before .before .if2 .left), lt-ltb _ _ h)
+    simp (
+      sym (c .before .before .before .before .before .member .ensures) ∙ c .before .before .before .before .if1 .taken,
+      ne-eqb _ _
+          (c .before .before .before .if2 .left),
+      lt-ltb _ _ h,
+    )
 
 returns-3 : tie.Need-returns-3
 unfolding betterOf
 returns-3 c =
     let a = c .before .before .before .before .before .before .args in
     let h : degreeIn (a .of) (a .k) ≤ degreeIn (a .of) (a .r) = omega arith in
-    simp (sym (c .before .before .before .before .before .member .ensures) ∙ c .before .before .before .before .if1 .taken, ne-eqb _ _ (c .before .before .before .if2 .left), le-ltb _ _ h)
+    simp (
+      sym (c .before .before .before .before .before .member .ensures) ∙ c .before .before .before .before .if1 .taken,
+      ne-eqb _ _
+          (c .before .before .before .if2 .left),
+      le-ltb _ _ h,
+    )
 
 returns-4 : tie.Need-returns-4
 unfolding betterOf

@@ -11,7 +11,8 @@ use Rattle.forest.proofs.building.holds.Tie as tie
 returns : tie.Need-returns
 unfolding holdsAt
 returns c =
-    sym (ap (λ (x : ℕ). member x (c .before .args .u)) (getD-beyond (c .before .args .t1) (c .before .args .i) 0 (search needs)) ∙ member-empty (c .before .args .u))
+    sym (ap (λ (x : ℕ). member x (c .before .args .u)) (getD-beyond (c .before .args .t1) (c .before .args .i) 0 (search needs))
+    ∙ member-empty (c .before .args .u))
 
 mul-member : tie.Need-mul-member
 mul-member c = search needs

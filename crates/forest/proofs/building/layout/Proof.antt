@@ -41,7 +41,8 @@ lay-requires : tie.Need-lay-requires Inv-loop μ-loop
 lay-requires c κs =
     let turn = c .before .before in
     let start = turn .before .before .before .before .before in
-    turn-layable (good-table start) (turn .before .loop .inv) (turn .loop-test .taken) (c .before .lowest .ensures) (c .component .ensures) (turn .before .before .before .before .memberships .ensures)
+    turn-layable (good-table start) (turn .before .loop .inv) (turn .loop-test .taken) (c .before .lowest .ensures) (c .component .ensures)
+    (turn .before .before .before .before .memberships .ensures)
 
 difference-requires : tie.Need-difference-requires Inv-loop μ-loop
 difference-requires c κs = search needs

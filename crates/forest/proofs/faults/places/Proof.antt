@@ -27,7 +27,8 @@ loop-less : tie.Need-loop-less Inv-loop μ-loop
 loop-less c = search needs
 
 loop-again : tie.Need-loop-again Inv-loop μ-loop
-loop-again c = collected-turn _ (c .before .before .before .loop .inv) (c .before .before .loop-test .taken) (c .before .faulty .ensures) (c .including-if .ensures)
+loop-again c = collected-turn _ (c .before .before .before .loop .inv) (c .before .before .loop-test .taken) (c .before .faulty .ensures)
+    (c .including-if .ensures)
 
 returns : tie.Need-returns Inv-loop μ-loop
 returns c = reached-all (c .before .loop .inv) (c .loop-test .left)

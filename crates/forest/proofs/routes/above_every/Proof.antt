@@ -40,7 +40,8 @@ loop-again c =
     let args = c .before .before .before .before .args in
     let loop = c .before .before .before .loop in
     let asked = sym (c .before .member .ensures) in
-    tested-turn intersection (ancestors (args .parents) (loop .k)) (member (args .group) (loop .k)) (loop .inv) (c .before .before .loop-test .taken) refl
+    tested-turn intersection (ancestors (args .parents) (loop .k)) (member (args .group) (loop .k)) (loop .inv)
+    (c .before .before .loop-test .taken) refl
     (⊎-elim (λ w. inl (asked ∙ w .0 .taken, w .3 ∙ w .2 .ensures ∙ ap (intersection (loop .set)) (w .1 .ensures)))
     (λ w. inr (asked ∙ w .0 .left, w .1)) (c .if1 .came))
 

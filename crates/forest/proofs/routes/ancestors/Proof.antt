@@ -36,7 +36,8 @@ loop-less c = search needs
 
 loop-again : tie.Need-loop-again Inv-loop μ-loop
 loop-again c =
-    climbed-turn (c .before .before .before .loop .inv) (c .before .before .loop-test .taken) (c .before .if1 .left) (search needs) (c .including .ensures)
+    climbed-turn (c .before .before .before .loop .inv) (c .before .before .loop-test .taken) (c .before .if1 .left) (search needs)
+    (c .including .ensures)
 
 returns-2 : tie.Need-returns-2 Inv-loop μ-loop
 unfolding ancestorsWithin

@@ -14,7 +14,8 @@ member-requires-2 c κs = search needs
 
 returns : tie.Need-returns
 unfolding onRoute above
-returns c = rw (← c .before .before .before .ancestors .ensures, ← c .before .before .member .ensures, c .before .if1 .taken) (c .member2 .ensures)
+returns c = rw (← c .before .before .before .ancestors .ensures, ← c .before .before .member .ensures, c .before .if1 .taken)
+    (c .member2 .ensures)
 
 returns-2 : tie.Need-returns-2
 unfolding onRoute above

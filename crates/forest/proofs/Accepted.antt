@@ -1,7 +1,7 @@
 -- A built forest is always accepted: no unit is its own ancestor, and every group has a primary. Assumes nothing.
 use mathlib.Core.Path.{_≡_, refl, sym, ap, subst, _∙_}
 use mathlib.Core.Logic.{_⊎_, inl, inr, ⊎-elim, by-cases}
-use mathlib.Core.Bool.{true, false}
+use mathlib.Core.Bool.{true, false, cond}
 use mathlib.Core.List.{List}
 use Prim.Native.Nat.{ℕ, zero, suc, _≤_, _<_}
 use native.Mathlib.Nat.{le-trans, le-of-eq, le-suc, le-of-suc-le-suc, not-suc-le-zero, lt-irrefl, lt-of-lt-of-le}
@@ -9,23 +9,45 @@ use native.Mathlib.Decide.{ℕ-discrete, decLt}
 use native.Mathlib.Omega.{arith}
 use lib.ListN.{getD}
 use lib.Dec.{ltb}
-use borrow.Author.Tests.{lt-ltb}
+use borrow.Author.Tests.{lt-ltb, le-ltb}
 use Rattle.sets.specs.Sets.{member, size, below}
-use Rattle.sets.proofs.Bools.{either, clash, and-both}
+use Rattle.sets.proofs.Bools.{either, clash, and-both, cond-true, cond-false}
 use Rattle.sets.proofs.Laws.{member-below-set, size-below, size-positive}
 use Rattle.forest.specs.Forest.{parent, hasPrimary}
 use Rattle.forest.specs.Claims.{Above, itself, over, Acyclic, Within, IsPrimary}
-use Rattle.forest.specs.Build.{setAside, component, root, built, IsRoot, Laid, whole, smaller}
+use Rattle.layout.specs.Build.{setAside, component, root, builtParent, built, IsRoot, Laid, whole, smaller, RootOf}
 use Rattle.forest.proofs.Ancestry.{above-trans, above-unit}
 use Rattle.forest.proofs.Primaries.{has-primary}
-use Rattle.forest.proofs.Parts.{Closed, place-below, component-self, component-closed}
-use Rattle.forest.proofs.Roots.{root-is}
-use Rattle.forest.proofs.Laid.{Bench, live-left, laid-facts, depth, laid-depth, laid-parent, rest-part, smaller-size}
-use Rattle.forest.proofs.Laid.{whole-part, root-of, rule-part, built-parent, past-parent}
+use Rattle.layout.specs.Tables.{tabulate}
+use Rattle.layout.proofs.Tables.{getD-tabulate, getD-past, same-tables}
+use Rattle.forest.specs.Calls.{drawnAt, drawn}
+use Rattle.layout.proofs.Parts.{Closed, place-below, component-self, component-closed}
+use Rattle.layout.proofs.Roots.{root-is}
+use Rattle.layout.proofs.Laid.{Bench, live-left, laid-facts, depth, laid-depth, laid-parent, rest-part, smaller-size}
+use Rattle.layout.proofs.Laid.{whole-part, root-of, rule-part, lonely-top}
 
 -- what is no unit has no unit above it
 no-unit : {ps : List ℕ} {a u : ℕ} → Above ps a u → u ≡ 255 → ⊥
 no-unit x e = let b = above-unit x .1 in let z : 255 < 32 = subst (λ (y : ℕ). y < 32) e b in lt-irrefl 32 (omega arith)
+
+-- ---- the parents of the built forest
+
+pub built-parent : (n : ℕ) (gs : List ℕ) (u : ℕ) → n ≤ 32 → u < n → parent (built n gs) u ≡ builtParent gs u
+unfolding parent built
+built-parent n gs u few h =
+    getD-tabulate 32 (λ v. cond (ltb v n) (builtParent gs v) 255) u 255 (lt-of-lt-of-le h few) ∙ cond-true (ltb u n) (builtParent gs u) 255 (lt-ltb u n h)
+
+pub past-parent : (n : ℕ) (gs : List ℕ) (u : ℕ) → n ≤ u → parent (built n gs) u ≡ 255
+unfolding parent built
+past-parent n gs u h = by-cases (decLt u 32)
+    (λ b. getD-tabulate 32 (λ v. cond (ltb v n) (builtParent gs v) 255) u 255 b ∙ cond-false (ltb u n) (builtParent gs u) 255 (le-ltb u n h))
+    (λ b. getD-past 32 (λ v. cond (ltb v n) (builtParent gs v) 255) u 255 (omega arith))
+
+-- a layout of all 32 places, cut to n units, is the built forest
+pub cut-layout : (n : ℕ) (gs : List ℕ) → drawn n (tabulate 32 (builtParent gs)) ≡ built n gs
+unfolding drawn drawnAt built
+cut-layout n gs = same-tables 32 (drawnAt n (tabulate 32 (builtParent gs))) (λ u. cond (ltb u n) (builtParent gs u) 255)
+    (λ u b. ap (λ (x : ℕ). cond (ltb u n) x 255) (getD-tabulate 32 (builtParent gs) u 255 b))
 
 module _ (n : ℕ) (gs : List ℕ) (bench : Bench n gs) where
   small : {u : ℕ} → u < n → u < 32
@@ -36,7 +58,17 @@ module _ (n : ℕ) (gs : List ℕ) (bench : Bench n gs) where
 
   -- the parent of the root of a laid part
   root-parent : {s live top r : ℕ} (l : Laid n gs s live top) → IsRoot gs s r → parent (built n gs) r ≡ top
-  root-parent {r = r} l q = built-parent n gs bench r (laid-unit l (q .inside)) ∙ laid-parent n gs bench l r q
+  root-parent {r = r} l q = built-parent n gs r (bench .few) (laid-unit l (q .inside)) ∙ laid-parent n gs bench l r q
+
+  -- every unit is the root of a laid part, and its parent is the unit that part is laid below
+  pub rule-parent : (u : ℕ) → u < n → (w : RootOf n gs u) × (parent (built n gs) u ≡ w .top)
+  rule-parent u h = let w = rule-part n gs bench u h in (w .0, built-parent n gs u (bench .few) h ∙ w .1)
+
+  -- a unit in no group is nobody's parent
+  pub lonely-childless : (u : ℕ) → u < n → ((i : ℕ) → member (getD gs i 0) u ≡ true → ⊥) → (v : ℕ) → parent (built n gs) v ≡ u → ⊥
+  lonely-childless u h none v e = by-cases (decLt v n)
+      (λ b. let w = rule-parent v b in lonely-top n gs bench (w .0 .laid) u h none (sym (w .1) ∙ e))
+      (λ b. lt-irrefl 32 (let z : 255 < 32 = subst (λ (x : ℕ). x < 32) (sym e ∙ past-parent n gs v (omega arith)) (small h) in omega arith))
 
   -- ---- the root of a part is above all of it
 
@@ -78,7 +110,7 @@ module _ (n : ℕ) (gs : List ℕ) (bench : Bench n gs) where
   unfolding Acyclic
   built-acyclic u h x = by-cases (decLt u n)
       (λ b. let w = root-of n gs bench u b in own (w .laid) (w .is-root) x)
-      (λ b. no-unit x (past-parent n gs bench u (omega arith)))
+      (λ b. no-unit x (past-parent n gs u (omega arith)))
 
   -- ---- every parent is a unit or none
 
@@ -90,9 +122,9 @@ module _ (n : ℕ) (gs : List ℕ) (bench : Bench n gs) where
   built-within = record {
     few = bench .few;
     parents = λ u. by-cases (decLt u n)
-        (λ b. let w = rule-part n gs bench u b in
+        (λ b. let w = rule-parent u b in
         ⊎-elim (λ e. inl (w .1 ∙ e)) (λ t. inr (b, subst (λ (x : ℕ). x < n) (sym (w .1)) t)) (top-unit (w .0 .laid)))
-        (λ b. inl (past-parent n gs bench u (omega arith)));
+        (λ b. inl (past-parent n gs u (omega arith)));
   }
 
   -- ---- every group has a primary: the root of the last part that holds all of it

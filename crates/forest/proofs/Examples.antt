@@ -6,12 +6,12 @@ use mathlib.Core.List.{List, [], _∷_, _++_}
 use lib.ListN.{replicate}
 use lib.Count.{onesIn, trailingZeros}
 use Rattle.sets.specs.Sets.{member, single, below, union, intersection, difference, including, includingIf, size, lowest, collect}
-use Rattle.forest.specs.Tables.{tabulate}
+use Rattle.layout.specs.Tables.{tabulate}
 use Rattle.forest.specs.Forest.{onRoute, lacksPrimary, parent, ancestorsWithin, ancestors, above, ownAncestor, aboveEvery}
 use Rattle.forest.specs.Forest.{aboveSome, primary, hasPrimary, route, forwarders, routeSize, cyclicUnits, withoutPrimary}
 use Rattle.forest.specs.Forest.{accepted}
-use Rattle.forest.specs.Build.{holdsAt, absorbed, groupsOf, degree, setAside, spread, rounds, component, betterOf}
-use Rattle.forest.specs.Build.{largestWithin, root, parentWithin, builtParent, built}
+use Rattle.layout.specs.Build.{holdsAt, absorbed, groupsOf, degree, setAside, spread, rounds, component, betterOf}
+use Rattle.layout.specs.Build.{largestWithin, root, parentWithin, builtParent, built}
 use Rattle.forest.specs.Calls.{countedAt, drawnAt, emptyAt, outsideAt, outsideParent, counted, drawn, badCounts}
 use Rattle.forest.specs.Calls.{emptyGroups, outsideGroups, outsideParents, refuse, groupsRefusal, drawingRefusal, orRoots}
 use Rattle.forest.specs.Calls.{buildRefusal, buildParents, checkRefusal, checkParents}

@@ -1,11 +1,6 @@
-pub mod Tables
 pub mod Shared
 pub mod Examples
 pub mod Ancestry
 pub mod Primaries
-pub mod Parts
-pub mod Roots
-pub mod Laid
-pub mod Laying
 pub mod Accepted
 pub mod Theorems

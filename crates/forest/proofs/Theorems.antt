@@ -15,19 +15,19 @@ use Rattle.sets.proofs.Bools.{either, clash, and-left, and-right, and-both, not
 use Rattle.sets.proofs.Laws.{member-difference, member-below-set, lowest-of-some, not-empty, below-below, difference-none}
 use Rattle.sets.proofs.Laws.{collect-none, none-collect}
 use Rattle.forest.specs.Forest.{parent, hasPrimary, cyclicUnits, withoutPrimary, accepted}
-use Rattle.forest.specs.Build.{builtParent, built}
+use Rattle.layout.specs.Build.{builtParent, built}
 use Rattle.forest.specs.Calls.{countedAt, counted, drawnAt, drawn, badCounts, emptyAt, emptyGroups, outsideAt}
 use Rattle.forest.specs.Calls.{outsideGroups, outsideParent, outsideParents, refuse, groupsRefusal, drawingRefusal, orRoots}
 use Rattle.forest.specs.Calls.{buildRefusal, buildParents, checkRefusal, checkParents}
 use Rattle.forest.specs.Claims.{Within, AcceptedForest, LaidByRule, ComponentsAreParts}
-use Rattle.forest.proofs.Tables.{length-tabulate, getD-tabulate, getD-past, same-tables}
+use Rattle.layout.proofs.Tables.{length-tabulate, getD-tabulate, getD-past, same-tables}
 use Rattle.forest.proofs.Shared.{no-difference, groups-rest}
 use Rattle.forest.proofs.Ancestry.{acyclic-of, of-acyclic, ends-at-root}
 use Rattle.forest.proofs.Primaries.{primary-is, primary-unique, on-route, route-has, members-on-route, parent-on-route}
 use Rattle.forest.proofs.Primaries.{without-primary-none, none-without-primary}
-use Rattle.forest.proofs.Laid.{Bench, in-rest, root-small, bench-part, bench-component, rest-part, rest-component}
-use Rattle.forest.proofs.Laid.{laid-facts, rule-part, laid-once, lonely-root, lonely-childless}
-use Rattle.forest.proofs.Accepted.{built-acyclic, built-within, built-primary}
+use Rattle.layout.proofs.Laid.{Bench, in-rest, root-small, bench-part, bench-component, rest-part, rest-component}
+use Rattle.layout.proofs.Laid.{laid-facts, laid-once, lonely-root}
+use Rattle.forest.proofs.Accepted.{built-parent, rule-parent, lonely-childless, built-acyclic, built-within, built-primary}
 
 -- ---- what an unrefused input is
 
@@ -142,9 +142,9 @@ unfolding buildRefusal
 built-by-rule n c gs e =
     let bench = groups-good n c gs [] e .0 .bench in
     rw (built-answer n c gs e) (record {
-      root-of = rule-part n (counted c gs) bench;
+      root-of = rule-parent n (counted c gs) bench;
       once = λ u w w′. laid-once n (counted c gs) bench (w .laid) (w′ .laid) u (w .is-root) (w′ .is-root);
-      lonely = λ u h none. (lonely-root n (counted c gs) bench u h none, lonely-childless n (counted c gs) bench u h none);
+      lonely = λ u h none. (built-parent n (counted c gs) u (bench .few) h ∙ lonely-root n (counted c gs) bench u h none, lonely-childless n (counted c gs) bench u h none);
     })
 
 pub components-are-parts : (n c : ℕ) (gs : List ℕ) → buildRefusal n c gs ≡ [] → ComponentsAreParts n (counted c gs)

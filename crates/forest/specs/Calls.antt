@@ -6,9 +6,9 @@ use mathlib.Core.List.{List, [], _∷_}
 use lib.ListN.{length, getD}
 use lib.Dec.{ltb, leb, eqb}
 use Rattle.sets.specs.Sets.{difference, lowest, collect, below}
-use Rattle.forest.specs.Tables.{tabulate}
+use Rattle.layout.specs.Tables.{tabulate}
 use Rattle.forest.specs.Forest.{parent, cyclicUnits, withoutPrimary}
-use Rattle.forest.specs.Build.{built}
+use Rattle.layout.specs.Build.{built}
 use Rattle.forest.specs.declared.Verdict.{Verdict}
 use Rattle.forest.specs.declared.Verdict.the-variants.{Accepted, BadCounts, EmptyGroup, OutsideUnits, OwnAncestor, NoPrimary}
 

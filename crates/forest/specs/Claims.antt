@@ -7,7 +7,7 @@ use mathlib.Core.List.{List}
 use lib.ListN.{getD}
 use Rattle.sets.specs.Sets.{member, excluding, below}
 use Rattle.forest.specs.Forest.{parent, primary, route}
-use Rattle.forest.specs.Build.{setAside, component, IsRoot, IsPart, Laid}
+use Rattle.layout.specs.Build.{setAside, component, IsRoot, IsPart, Laid, RootOf, Same}
 
 -- a is above u: it is u itself, or is above u's parent
 pub data Above (ps : List ℕ) : ℕ → ℕ → Type 0 where
@@ -63,20 +63,6 @@ pub record ComponentsAreParts (n : ℕ) (gs : List ℕ) : Type 0 where
       → IsPart gs (setAside gs live r) (excluding s r) (component gs (setAside gs live r) u)
   pub smaller-only : {s live top r t : ℕ} → Laid n gs s live top → IsRoot gs s r → (p : IsPart gs (setAside gs live r) (excluding s r) t)
       → t ≡ component gs (setAside gs live r) (p .unit)
-
--- a laid part whose root is u
-pub record RootOf (n : ℕ) (gs : List ℕ) (u : ℕ) : Type 0 where
-  pub part : ℕ
-  pub live : ℕ
-  pub top : ℕ
-  pub laid : Laid n gs part live top
-  pub is-root : IsRoot gs part u
-
--- two laid parts are the same: the units, the groups left and the unit above
-pub record Same (s s′ live live′ top top′ : ℕ) : Type 0 where
-  pub parts : s ≡ s′
-  pub lives : live ≡ live′
-  pub tops : top ≡ top′
 
 -- the forest ps on n units is laid out from the groups gs by document 01's rule
 pub record LaidByRule (n : ℕ) (gs ps : List ℕ) : Type 0 where

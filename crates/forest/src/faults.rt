@@ -4,7 +4,7 @@ ghost use mathlib.Core.Path.{_≡_};
 ghost use Rattle.sets.specs.Sets.{collect};
 ghost use Rattle.forest.specs.Forest.{ownAncestor, lacksPrimary};
 ghost use Rattle.forest.specs.Calls.{emptyAt, outsideAt, outsideParent};
-ghost use Rattle.forest.specs.Layout.{faulty as faultyOf};
+ghost use Rattle.forest.specs.Faults.{faulty as faultyOf};
 
 // Of a group: it is empty, it has a member outside the units, it has no primary.
 // Of a unit: its parent is outside the units, it is its own ancestor.

@@ -1,5 +1,4 @@
 // Forests of units. `check` judges a drawn forest; `build` lays one out from a list of groups.
-mod building;
 mod drawing;
 mod faults;
 mod groups;
@@ -58,6 +57,6 @@ pub fn build(units: usize, groups: [u32; 24], count: usize) -> Answer
 {
     let table = groups::counted(groups, count);
     let verdict = groups::judge(units, table, count);
-    let forest = drawing::drawn(units, building::layout(table));
+    let forest = drawing::drawn(units, layout::lay_out(table));
     answered(verdict, forest)
 }

@@ -2,7 +2,7 @@ use borrow.Author.Needs.{needs}
 use mathlib.Core.Path.{refl, sym, _∙_}
 use Rattle.sets.proofs.Bools.{cond-true, cond-false}
 use Rattle.forest.specs.Calls.{accepts}
-use Rattle.forest.specs.Tables.{tabulate}
+use Rattle.layout.specs.Tables.{tabulate}
 use Rattle.forest.proofs.Shared.{roots-or}
 use Rattle.forest.proofs.answered.Statement.{statement}
 use Rattle.forest.proofs.answered.Tie as tie

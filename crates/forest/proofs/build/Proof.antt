@@ -1,8 +1,8 @@
 use borrow.Author.Needs.{needs}
 use mathlib.Core.Path.{_≡_, ap, _∙_}
-use Rattle.forest.specs.Build.{built}
+use Rattle.layout.specs.Build.{built}
 use Rattle.forest.specs.Calls.{drawn, counted, buildRefusal, buildParents}
-use Rattle.forest.proofs.Laying.{cut-layout}
+use Rattle.forest.proofs.Accepted.{cut-layout}
 use Rattle.forest.proofs.build.Statement.{statement}
 use Rattle.forest.proofs.build.Tie as tie
 
@@ -12,8 +12,8 @@ counted-requires c κs = search needs
 judge-requires : tie.Need-judge-requires
 judge-requires c κs = search needs
 
-layout-requires : tie.Need-layout-requires
-layout-requires c κs = search needs
+lay-out-requires : tie.Need-lay-out-requires
+lay-out-requires c κs = search needs
 
 drawn-requires : tie.Need-drawn-requires
 drawn-requires c κs = search needs
@@ -28,7 +28,7 @@ returns c =
     let counts = c .before .before .before .before .counted .ensures in
     let judges = c .before .before .before .judge .ensures in
     let lays : c .before .drawn .result ≡ built (a .units) (counted (a .count) (a .groups)) =
-    c .before .drawn .ensures ∙ ap (drawn (a .units)) (c .before .before .layout .ensures) ∙ cut-layout (a .units)
+    c .before .drawn .ensures ∙ ap (drawn (a .units)) (c .before .before .lay-out .ensures) ∙ cut-layout (a .units)
     (c .before .before .before .before .counted .result)
     ∙ ap (built (a .units)) counts in
     let answers = c .answered .ensures in
@@ -40,7 +40,7 @@ build-spec =
     (tie.spec
     counted-requires
     judge-requires
-    layout-requires
+    lay-out-requires
     drawn-requires
     answered-requires
     returns)

@@ -2,7 +2,8 @@ use borrow.Author.Needs.{needs}
 use borrow.Author.Tests.{lt-ltb, le-ltb}
 use lib.Dec.{ltb}
 use Rattle.forest.specs.Calls.{drawnAt}
-use Rattle.forest.proofs.Shared.{getD-any, cond-beyond}
+use Rattle.layout.proofs.Loops.{getD-any}
+use Rattle.forest.proofs.Shared.{cond-beyond}
 use Rattle.forest.proofs.drawing.drawn_at.Statement.{statement}
 use Rattle.forest.proofs.drawing.drawn_at.Tie as tie
 

@@ -1,7 +1,7 @@
 use borrow.Author.Needs.{needs}
 use Rattle.forest.specs.Calls.{outsideParents, refusal, refuse, drawingRefusal}
 use Rattle.forest.specs.Forest.{cyclicUnits, withoutPrimary}
-use Rattle.forest.specs.Layout.{faulty}
+use Rattle.forest.specs.Faults.{faulty}
 use Rattle.forest.proofs.Shared.{is-zero, no-zero}
 use Rattle.forest.proofs.drawing.judge_parents.Statement.{statement}
 use Rattle.forest.proofs.drawing.judge_parents.Tie as tie

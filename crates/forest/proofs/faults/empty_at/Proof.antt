@@ -1,7 +1,7 @@
 use borrow.Author.Needs.{needs}
 use borrow.Author.Tests.{lt-ltb, le-ltb}
 use Rattle.forest.specs.Calls.{emptyAt}
-use Rattle.forest.proofs.Shared.{getD-beyond}
+use Rattle.layout.proofs.Loops.{getD-beyond}
 use Rattle.forest.proofs.faults.empty_at.Statement.{statement}
 use Rattle.forest.proofs.faults.empty_at.Tie as tie
 

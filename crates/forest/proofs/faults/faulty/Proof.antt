@@ -1,6 +1,6 @@
 use borrow.Author.Needs.{needs}
 use mathlib.Core.Path.{sym, ap, _∙_}
-use Rattle.forest.specs.Layout.{faulty}
+use Rattle.forest.specs.Faults.{faulty}
 use Rattle.forest.specs.declared.faults.Fault.{Fault}
 use Rattle.forest.proofs.faults.faulty.Statement.{statement}
 use Rattle.forest.proofs.faults.faulty.Tie as tie

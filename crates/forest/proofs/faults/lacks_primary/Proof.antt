@@ -1,7 +1,8 @@
 use borrow.Author.Needs.{needs}
 use borrow.Author.Tests.{lt-ltb, le-ltb}
 use Rattle.forest.specs.Forest.{hasPrimary, lacksPrimary}
-use Rattle.forest.proofs.Shared.{getD-beyond, not-ltb, no-primary}
+use Rattle.layout.proofs.Loops.{getD-beyond}
+use Rattle.forest.proofs.Shared.{not-ltb, no-primary}
 use Rattle.forest.proofs.faults.lacks_primary.Statement.{statement}
 use Rattle.forest.proofs.faults.lacks_primary.Tie as tie
 

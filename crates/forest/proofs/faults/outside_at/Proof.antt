@@ -1,6 +1,7 @@
 use borrow.Author.Needs.{needs}
 use Rattle.forest.specs.Calls.{outsideAt}
-use Rattle.forest.proofs.Shared.{getD-beyond, no-difference}
+use Rattle.layout.proofs.Loops.{getD-beyond}
+use Rattle.forest.proofs.Shared.{no-difference}
 use Rattle.forest.proofs.faults.outside_at.Statement.{statement}
 use Rattle.forest.proofs.faults.outside_at.Tie as tie
 

@@ -3,7 +3,7 @@ use borrow.Author.Tests.{le-leb, lt-leb}
 use mathlib.Core.Bool.{and-false}
 use Rattle.forest.specs.Forest.{parent}
 use Rattle.forest.specs.Calls.{outsideParent}
-use Rattle.forest.proofs.Shared.{getD-any, getD-beyond}
+use Rattle.layout.proofs.Loops.{getD-any, getD-beyond}
 use Rattle.forest.proofs.faults.outside_parent.Statement.{statement}
 use Rattle.forest.proofs.faults.outside_parent.Tie as tie
 

@@ -3,7 +3,7 @@ use mathlib.Core.Path.{sym}
 use Rattle.sets.proofs.Laws.{not-member}
 use Rattle.forest.specs.Forest.{parent, ancestors, above, ownAncestor}
 use Rattle.forest.proofs.Ancestry.{ancestors-below}
-use Rattle.forest.proofs.Shared.{getD-any}
+use Rattle.layout.proofs.Loops.{getD-any}
 use Rattle.forest.proofs.faults.own_ancestor.Statement.{statement}
 use Rattle.forest.proofs.faults.own_ancestor.Tie as tie
 

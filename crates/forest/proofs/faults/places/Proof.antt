@@ -1,7 +1,7 @@
 use borrow.Author.Needs.{needs}
 use Prim.Native.Nat.{_-_}
-use Rattle.forest.specs.Layout.{faulty}
-use Rattle.forest.proofs.Shared.{Collected, collected-none, collected-turn, reached-all}
+use Rattle.forest.specs.Faults.{faulty}
+use Rattle.layout.proofs.Loops.{Collected, collected-none, collected-turn, reached-all}
 use Rattle.forest.proofs.faults.places.Statement.{statement}
 use Rattle.forest.proofs.faults.places.Tie as tie
 

@@ -2,7 +2,7 @@ use borrow.Author.Needs.{needs}
 use mathlib.Core.Path.{refl}
 use Prim.Native.Nat.{_-_}
 use Rattle.forest.specs.Calls.{countedAt, counted}
-use Rattle.forest.proofs.Shared.{Filled, filled-none, filled-turn, filled-all}
+use Rattle.layout.proofs.Loops.{Filled, filled-none, filled-turn, filled-all}
 use Rattle.forest.proofs.groups.counted.Statement.{statement}
 use Rattle.forest.proofs.groups.counted.Tie as tie
 

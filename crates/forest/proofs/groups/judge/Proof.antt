@@ -1,7 +1,7 @@
 use borrow.Author.Needs.{needs}
 use mathlib.Core.Path.{sym, _∙_}
 use Rattle.forest.specs.Calls.{emptyGroups, outsideGroups, refusal, refuse, groupsRefusal}
-use Rattle.forest.specs.Layout.{faulty}
+use Rattle.forest.specs.Faults.{faulty}
 use Rattle.forest.proofs.Shared.{is-zero, no-zero}
 use Rattle.forest.proofs.groups.judge.Statement.{statement}
 use Rattle.forest.proofs.groups.judge.Tie as tie

@@ -5,7 +5,7 @@ use Prim.Native.Nat.{_-_}
 use native.Mathlib.Omega.{arith}
 use Rattle.sets.specs.Sets.{member, intersection}
 use Rattle.forest.specs.Forest.{ancestors, aboveEvery}
-use Rattle.forest.proofs.Shared.{Reached, reached-all, tested-turn}
+use Rattle.layout.proofs.Loops.{Reached, reached-all, tested-turn}
 use Rattle.forest.proofs.routes.above_every.Statement.{statement}
 use Rattle.forest.proofs.routes.above_every.Tie as tie
 

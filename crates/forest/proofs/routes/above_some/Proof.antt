@@ -5,7 +5,7 @@ use Prim.Native.Nat.{_-_}
 use native.Mathlib.Omega.{arith}
 use Rattle.sets.specs.Sets.{member, union}
 use Rattle.forest.specs.Forest.{ancestors, aboveSome}
-use Rattle.forest.proofs.Shared.{Reached, reached-all, tested-turn}
+use Rattle.layout.proofs.Loops.{Reached, reached-all, tested-turn}
 use Rattle.forest.proofs.routes.above_some.Statement.{statement}
 use Rattle.forest.proofs.routes.above_some.Tie as tie
 

@@ -1,7 +1,7 @@
 use borrow.Author.Needs.{needs}
 use Prim.Native.Nat.{_-_}
 use Rattle.forest.specs.Forest.{onRoute, route}
-use Rattle.forest.proofs.Shared.{Collected, collected-none, collected-turn, reached-all}
+use Rattle.layout.proofs.Loops.{Collected, collected-none, collected-turn, reached-all}
 use Rattle.forest.proofs.routes.route.Statement.{statement}
 use Rattle.forest.proofs.routes.route.Tie as tie
 

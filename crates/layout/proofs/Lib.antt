@@ -1,0 +1,6 @@
+pub mod Tables
+pub mod Loops
+pub mod Parts
+pub mod Roots
+pub mod Laid
+pub mod Laying

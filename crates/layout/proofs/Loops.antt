@@ -1,0 +1,85 @@
+-- Loops that fill a table or follow a rule place by place. Assumes nothing.
+use mathlib.Core.Path.{_≡_, refl, sym, ap, _∙_}
+use mathlib.Core.Logic.{_⊎_, ⊎-elim}
+use mathlib.Core.Bool.{Bool, true, false, cond}
+use mathlib.Core.List.{List, [], _∷_}
+use Prim.Native.Nat.{ℕ, zero, suc, _+_, _≤_, _<_}
+use native.Mathlib.Nat.{not-suc-le-zero, le-of-suc-le-suc, lt-irrefl, le-antisymm}
+use native.Mathlib.Numerals.{add-one}
+use native.Mathlib.Omega.{arith}
+use borrow.Author.Count.{below-more}
+use lib.ListN.{length, getD, set, length-set, List·getD-eq-default}
+use lib.Seq.{getD-set-same, getD-set-other}
+use Rattle.sets.specs.Sets.{includingIf, collect}
+use Rattle.sets.proofs.Bools.{cond-true, cond-false}
+use Rattle.layout.specs.Tables.{tabulate}
+use Rattle.layout.proofs.Tables.{tabulated, collect-turn}
+
+-- ---- entries of a list
+
+-- within the list the default does not matter
+pub getD-any : (l : List ℕ) (i d e : ℕ) → i < length l → getD l i d ≡ getD l i e
+getD-any [] i d e h = absurd (not-suc-le-zero h)
+getD-any (x ∷ l) zero d e h = refl
+getD-any (x ∷ l) (suc i) d e h = getD-any l i d e (le-of-suc-le-suc h)
+
+-- past the list the default stands
+pub getD-beyond : (l : List ℕ) (i d : ℕ) → length l ≤ i → getD l i d ≡ d
+getD-beyond l i d h = List·getD-eq-default l d h
+
+-- ---- loops
+
+-- a table of n entries, the first i of them those of f
+pub record Filled (n : ℕ) (f : ℕ → ℕ) (l : List ℕ) (i : ℕ) : Type 0 where
+  pub within : i ≤ n
+  pub long : length l ≡ n
+  pub right : (j : ℕ) → j < i → getD l j 0 ≡ f j
+
+pub filled-none : {n : ℕ} {f : ℕ → ℕ} {l : List ℕ} → length l ≡ n → Filled n f l 0
+filled-none e = record { within = omega arith; long = e; right = λ j h. absurd (not-suc-le-zero h) }
+
+pub filled-turn : {n : ℕ} {f : ℕ → ℕ} {l : List ℕ} {i v : ℕ} → Filled n f l i → i < n → v ≡ f i → Filled n f (set l i v) (i + 1)
+filled-turn {n} {f} {l} {i} {v} h b e = record {
+  within = omega arith;
+  long = length-set l i v ∙ h .long;
+  right = below-more _ _
+      (λ j q. getD-set-other l i j v 0 (λ p. lt-irrefl i (let z : i < i = omega arith in z)) ∙ h .right j q)
+      (getD-set-same l i v 0 (let z : i < length l = omega (arith, h .long) in z) ∙ e);
+}
+
+pub filled-all : {n : ℕ} {f : ℕ → ℕ} {l : List ℕ} {i : ℕ} → Filled n f l i → n ≤ i → l ≡ tabulate n f
+filled-all {n} {f} {l} {i} h b = tabulated n f l 0 (h .long) (λ j q. h .right j (let z : j < i = omega arith in z))
+
+-- a number that has followed g up to i, on the way to n
+pub record Reached (n : ℕ) (g : ℕ → ℕ) (s i : ℕ) : Type 0 where
+  pub within : i ≤ n
+  pub right : s ≡ g i
+
+pub reached-all : {n : ℕ} {g : ℕ → ℕ} {s i : ℕ} → Reached n g s i → n ≤ i → s ≡ g n
+reached-all {n} {g} h b = h .right ∙ ap g (le-antisymm (h .within) b)
+
+pub reached-turn : {n : ℕ} {g : ℕ → ℕ} {s i r : ℕ} → Reached n g s i → i < n → r ≡ g (suc i) → Reached n g r (i + 1)
+reached-turn {n} {g} {s} {i} h b e = record { within = omega arith; right = e ∙ ap g (sym (add-one i)) }
+
+-- one turn of a loop that changes the number by `op` and `a` where a test says so
+pub tested-turn : (op : ℕ → ℕ → ℕ) (a : ℕ) (t : Bool) {n : ℕ} {g : ℕ → ℕ} {s i r : ℕ} → Reached n g s i → i < n
+    → g (suc i) ≡ cond t (op (g i) a) (g i) → ((t ≡ true) × (r ≡ op s a)) ⊎ ((t ≡ false) × (r ≡ s)) → Reached n g r (i + 1)
+tested-turn op a t {n} {g} {s} {i} {r} h b e w = record {
+  within = omega arith;
+  right = ⊎-elim
+      (λ (x : (t ≡ true) × (r ≡ op s a)). x .1 ∙ ap (λ (y : ℕ). op y a) (h .right) ∙ sym (cond-true t _ _ (x .0)))
+      (λ (x : (t ≡ false) × (r ≡ s)). x .1 ∙ h .right ∙ sym (cond-false t _ _ (x .0))) w
+      ∙ sym e ∙ ap g (sym (add-one i));
+}
+
+-- a set that is collected by a test
+abbrev pub Collected : ℕ → (ℕ → Bool) → ℕ → ℕ → Type 0
+Collected n f s i = Reached n (λ k. collect k f) s i
+
+pub collected-none : {n : ℕ} (f : ℕ → Bool) → Collected n f 0 0
+unfolding collect
+collected-none f = record { within = omega arith; right = refl }
+
+pub collected-turn : {n : ℕ} (f : ℕ → Bool) {s i r : ℕ} {t : Bool} → Collected n f s i → i < n → t ≡ f i
+    → r ≡ includingIf s i t → Collected n f r (i + 1)
+collected-turn {n} f {s} {i} {r} {t} h b ht hr = record { within = omega arith; right = collect-turn f i s r t (h .right) ht hr }

@@ -1,0 +1,82 @@
+use borrow.Author.Needs.{needs}
+use mathlib.Core.Path.{_≡_, refl}
+use lib.ListN.{length, getD}
+use mir.Syntax.{w32}
+use mir.Val.{Fits}
+use Rattle.sets.specs.Sets.{size}
+use Rattle.layout.proofs.Parts.{Table}
+use Rattle.layout.proofs.Laying.{Laying, turn-layable, turn-less, turn-again, all-starts, all-ends}
+use Rattle.layout.proofs.lay_out.Statement.{statement}
+use Rattle.layout.proofs.lay_out.Tie as tie
+
+abbrev Inv-loop : tie.InvT-loop
+Inv-loop groups of all table₀ rest₀ table rest = Laying groups all 255 rest₀ table₀ table rest
+
+abbrev μ-loop : tie.MeasureT-loop
+μ-loop groups of all table₀ rest₀ table rest = size rest
+
+-- what the parameter's type says: 24 groups of 32 bits
+good-table : (c : tie.Start Inv-loop μ-loop) → Table (c .args .groups)
+good-table c = record { long = search needs; bounded = λ i. let f : Fits w32 (getD (c .args .groups) i 0) = search needs in f .fits }
+
+memberships-requires : tie.Need-memberships-requires Inv-loop μ-loop
+memberships-requires c κs = search needs
+
+below-requires : tie.Need-below-requires Inv-loop μ-loop
+below-requires c κs = search needs
+
+below-requires-2 : tie.Need-below-requires-2 Inv-loop μ-loop
+below-requires-2 c κs = search needs
+
+loop-holds : tie.Need-loop-holds Inv-loop μ-loop
+loop-holds c = all-starts (good-table (c .before .before .before)) (c .before .below .ensures) (c .below2 .ensures) refl
+
+lowest-requires : tie.Need-lowest-requires Inv-loop μ-loop
+lowest-requires c κs = search needs
+
+component-requires : tie.Need-component-requires Inv-loop μ-loop
+component-requires c κs = search needs
+
+lay-requires : tie.Need-lay-requires Inv-loop μ-loop
+lay-requires c κs =
+    let turn = c .before .before in
+    let start = turn .before .before .before .before .before in
+    turn-layable (good-table start) (turn .before .loop .inv) (turn .loop-test .taken) (c .before .lowest .ensures) (c .component .ensures)
+    (turn .before .before .before .before .memberships .ensures)
+
+difference-requires : tie.Need-difference-requires Inv-loop μ-loop
+difference-requires c κs = search needs
+
+loop-less : tie.Need-loop-less Inv-loop μ-loop
+loop-less c =
+    let turn = c .before .before .before .before in
+    turn-less (good-table (turn .before .before .before .before .before)) (turn .before .loop .inv) (turn .loop-test .taken)
+    (c .before .before .before .lowest .ensures) (c .before .before .component .ensures) (c .difference .ensures)
+
+loop-again : tie.Need-loop-again Inv-loop μ-loop
+loop-again c =
+    let turn = c .before .before .before .before in
+    let l : length (c .before .lay .result) ≡ 32 = search needs in
+    turn-again (good-table (turn .before .before .before .before .before)) (turn .before .loop .inv) (turn .loop-test .taken)
+    (c .before .before .before .lowest .ensures) (c .before .before .component .ensures) (c .difference .ensures) l (c .before .lay .ensures)
+
+returns : tie.Need-returns Inv-loop μ-loop
+returns c = all-ends (c .before .before .before .below .ensures) (c .before .before .below2 .ensures) (c .before .loop .inv) (c .loop-test .left)
+
+pub lay-out-spec : {M : Type 1} → statement M
+lay-out-spec =
+    tie.close
+    (tie.spec
+    Inv-loop
+    μ-loop
+    memberships-requires
+    below-requires
+    below-requires-2
+    loop-holds
+    lowest-requires
+    component-requires
+    lay-requires
+    difference-requires
+    loop-less
+    loop-again
+    returns)

@@ -1,4 +1,5 @@
--- What is claimed of every unrefused `build` and `check`, in document 01's words, as relations. Definitions only; the proofs are in proofs/Theorems.antt.
+-- What is claimed of every unrefused `build` and `check`, in document 01's words, as relations. Definitions only.
+-- The proofs are in proofs/Theorems.antt.
 use mathlib.Core.Path.{_≡_}
 use mathlib.Core.Logic.{_⊎_}
 use Prim.Native.Nat.{ℕ, zero, suc, _≤_, _<_}
@@ -48,8 +49,8 @@ pub record AcceptedForest (n c : ℕ) (gs ps : List ℕ) : Type 0 where
   pub primary-of : (i : ℕ) → i < c → IsPrimary ps (getD gs i 0) (primary ps (getD gs i 0))
   pub unique : (g p q : ℕ) → IsPrimary ps g p → IsPrimary ps g q → p ≡ q
   -- the way is every unit on the paths from the primary down to the members
-  pub way : (g u : ℕ) → (member (route ps g) u ≡ true → OnWay ps g (primary ps g) u) × (OnWay ps g (primary ps g) u
-      → member (route ps g) u ≡ true)
+  pub way : (g u : ℕ)
+      → (member (route ps g) u ≡ true → OnWay ps g (primary ps g) u) × (OnWay ps g (primary ps g) u → member (route ps g) u ≡ true)
   -- members are on the way, and so is the parent of every unit of the way but the primary
   pub members : (i u : ℕ) → i < c → member (getD gs i 0) u ≡ true → member (route ps (getD gs i 0)) u ≡ true
   pub parents : (i u : ℕ) → i < c → member (route ps (getD gs i 0)) u ≡ true → (u ≡ primary ps (getD gs i 0) → ⊥)

@@ -102,6 +102,43 @@ fn drawn(name: &[u8], units: usize, groups: [u32; 24], count: usize, parents: [u
     print_answer(name, units, forest::check(units, groups, count, parents));
 }
 
+// u, if it is in the set, with a comma before it unless it is the lowest.
+fn print_member(set: u32, u: usize) {
+    if sets::member(set, u) {
+        if u != sets::lowest(set) {
+            print(b",");
+        }
+        io::print_decimal(STDOUT_FILENO, u as u64);
+    }
+}
+
+fn print_members(set: u32) {
+    let mut u = 0;
+    while u < 32 {
+        print_member(set, u);
+        u += 1;
+    }
+}
+
+// One line: the name, and the units on a group's way.
+fn print_way(name: &[u8], answer: Answer, group: u32) {
+    print(name);
+    print(b" way=");
+    let parents = answer.parents;
+    print_members(forest::routes::route(parents, group));
+    print(b"\n");
+}
+
+// Ways of P3's forest, a line of four units, and of P4's, where unit 2 carries for group 0.
+fn ways() {
+    let line = forest::build(4, bench_c(), 4);
+    print_way(b"P3 group 0", line, 9);
+    print_way(b"P3 group 1", line, 3);
+    print_way(b"P3 group 2", line, 12);
+    let drawn = forest::check(4, bench_c(), 4, drawing(255, 2, 0, 2));
+    print_way(b"P4 group 0", drawn, 9);
+}
+
 // Document 01's examples of forests.
 fn examples() {
     built(b"P1", 4, table(11, 14, 0, 0), 2);
@@ -179,6 +216,7 @@ fn several_faults() {
 
 fn main() {
     examples();
+    ways();
     taken();
     bad_tables();
     bad_drawings();

@@ -1,7 +1,7 @@
 -- A built forest is always accepted: no unit is its own ancestor, and every group has a primary. Assumes nothing.
 use mathlib.Core.Path.{_≡_, refl, sym, ap, subst, _∙_}
 use mathlib.Core.Logic.{_⊎_, inl, inr, ⊎-elim, by-cases}
-use mathlib.Core.Bool.{true, false, cond}
+use mathlib.Core.Bool.{Bool, true, false, cond}
 use mathlib.Core.List.{List}
 use Prim.Native.Nat.{ℕ, zero, suc, _≤_, _<_}
 use native.Mathlib.Nat.{le-trans, le-of-eq, le-suc, le-of-suc-le-suc, not-suc-le-zero, lt-irrefl, lt-of-lt-of-le}
@@ -11,8 +11,8 @@ use lib.ListN.{getD}
 use lib.Dec.{ltb}
 use borrow.Author.Tests.{lt-ltb, le-ltb}
 use Rattle.sets.specs.Sets.{member, size, below}
-use Rattle.sets.proofs.Bools.{either, clash, and-both, cond-true, cond-false}
-use Rattle.sets.proofs.Laws.{member-below-set, size-below, size-positive}
+use Rattle.sets.proofs.Bools.{either, clash, cond-true, cond-false}
+use Rattle.sets.proofs.Laws.{in-below, size-below, size-positive}
 use Rattle.forest.specs.Forest.{parent, hasPrimary}
 use Rattle.forest.specs.Claims.{Above, itself, over, Acyclic, Within, IsPrimary}
 use Rattle.layout.specs.Build.{setAside, component, root, builtParent, built, IsRoot, Laid, whole, smaller, RootOf}
@@ -32,22 +32,43 @@ no-unit x e = let b = above-unit x .1 in let z : 255 < 32 = subst (λ (y : ℕ).
 
 -- ---- the parents of the built forest
 
-pub built-parent : (n : ℕ) (gs : List ℕ) (u : ℕ) → n ≤ 32 → u < n → parent (built n gs) u ≡ builtParent gs u
-unfolding parent built
-built-parent n gs u few h =
-    getD-tabulate 32 (λ v. cond (ltb v n) (builtParent gs v) 255) u 255 (lt-of-lt-of-le h few) ∙ cond-true (ltb u n) (builtParent gs u) 255 (lt-ltb u n h)
+drawn-entry : (n : ℕ) (ps : List ℕ) (u : ℕ) → u < 32 → parent (drawn n ps) u ≡ cond (ltb u n) (getD ps u 255) 255
+unfolding parent drawn drawnAt
+drawn-entry n ps u b = getD-tabulate 32 (drawnAt n ps) u 255 b
 
-pub past-parent : (n : ℕ) (gs : List ℕ) (u : ℕ) → n ≤ u → parent (built n gs) u ≡ 255
-unfolding parent built
-past-parent n gs u h = by-cases (decLt u 32)
-    (λ b. getD-tabulate 32 (λ v. cond (ltb v n) (builtParent gs v) 255) u 255 b ∙ cond-false (ltb u n) (builtParent gs u) 255 (le-ltb u n h))
-    (λ b. getD-past 32 (λ v. cond (ltb v n) (builtParent gs v) 255) u 255 (omega arith))
+pub past-drawn : (n : ℕ) (ps : List ℕ) (u : ℕ) → n ≤ u → parent (drawn n ps) u ≡ 255
+unfolding parent drawn
+past-drawn n ps u h = by-cases (decLt u 32)
+    (λ b. drawn-entry n ps u b ∙ cond-false (ltb u n) (getD ps u 255) 255 (le-ltb u n h))
+    (λ b. getD-past 32 (drawnAt n ps) u 255 (omega arith))
+
+-- what is cut to n units stays so
+drawn-again : (n : ℕ) (ps : List ℕ) → drawn n (drawn n ps) ≡ drawn n ps
+unfolding parent drawn drawnAt
+drawn-again n ps = same-tables 32 (drawnAt n (drawn n ps)) (drawnAt n ps)
+    (λ u b. ap (λ (x : ℕ). cond (ltb u n) x 255) (drawn-entry n ps u b) ∙ twice (ltb u n) (getD ps u 255))
+  where
+    twice : (b : Bool) (x : ℕ) → cond b (cond b x 255) 255 ≡ cond b x 255
+    twice true x = refl
+    twice false x = refl
 
 -- a layout of all 32 places, cut to n units, is the built forest
 pub cut-layout : (n : ℕ) (gs : List ℕ) → drawn n (tabulate 32 (builtParent gs)) ≡ built n gs
 unfolding drawn drawnAt built
 cut-layout n gs = same-tables 32 (drawnAt n (tabulate 32 (builtParent gs))) (λ u. cond (ltb u n) (builtParent gs u) 255)
     (λ u b. ap (λ (x : ℕ). cond (ltb u n) x 255) (getD-tabulate 32 (builtParent gs) u 255 b))
+
+pub built-cut : (n : ℕ) (gs : List ℕ) → drawn n (built n gs) ≡ built n gs
+built-cut n gs = ap (drawn n) (sym (cut-layout n gs)) ∙ drawn-again n (tabulate 32 (builtParent gs)) ∙ cut-layout n gs
+
+past-parent : (n : ℕ) (gs : List ℕ) (u : ℕ) → n ≤ u → parent (built n gs) u ≡ 255
+past-parent n gs u h = ap (λ (l : List ℕ). parent l u) (sym (cut-layout n gs)) ∙ past-drawn n (tabulate 32 (builtParent gs)) u h
+
+pub built-parent : (n : ℕ) (gs : List ℕ) (u : ℕ) → n ≤ 32 → u < n → parent (built n gs) u ≡ builtParent gs u
+built-parent n gs u few h =
+    let small : u < 32 = lt-of-lt-of-le h few in
+    ap (λ (l : List ℕ). parent l u) (sym (cut-layout n gs)) ∙ drawn-entry n (tabulate 32 (builtParent gs)) u small
+    ∙ cond-true (ltb u n) (getD (tabulate 32 (builtParent gs)) u 255) 255 (lt-ltb u n h) ∙ getD-tabulate 32 (builtParent gs) u 255 small
 
 module _ (n : ℕ) (gs : List ℕ) (bench : Bench n gs) where
   small : {u : ℕ} → u < n → u < 32
@@ -157,8 +178,8 @@ module _ (n : ℕ) (gs : List ℕ) (bench : Bench n gs) where
 
   pub built-primary : (i v : ℕ) → member (getD gs i 0) v ≡ true → hasPrimary (built n gs) (getD gs i 0) ≡ true
   built-primary i v b =
-      let live : member (below 24) i ≡ true = member-below-set 24 i ∙ and-both (ltb i 32) (ltb i 24)
-      (lt-ltb i 32 (let h = place-below gs (bench .table) i v b in omega arith)) (lt-ltb i 24 (place-below gs (bench .table) i v b)) in
+      let place = place-below gs (bench .table) i v b in
+      let live = in-below 24 i (omega arith) place in
       let p = group-primary 32 (whole-part n gs bench v (bench .within i v b)) i v (size-below (component gs (below 24) v)) live b
       (whole-group (below 24) i v live b) in
       has-primary (built n gs) (getD gs i 0) (p .0) (bench .table .bounded i) (p .1)

@@ -12,7 +12,7 @@ use lib.Dec.{ltb, eqb, lit≤}
 use lib.Pow.{pow-pos}
 use Rattle.sets.specs.Sets.{member, size, below}
 use Rattle.sets.proofs.Bools.{either, clash, not-true-false, and-left, and-right, and-both, or-left, or-right, or-cases}
-use Rattle.sets.proofs.Laws.{member-empty, member-including, member-below-set, collect-none, none-collect}
+use Rattle.sets.proofs.Laws.{member-empty, member-including, in-below, collect-none, none-collect}
 use Rattle.sets.proofs.Laws.{Subset, same-or-more, size-less, size-below, size-subset, size-positive, size-below-set, including-below}
 use Rattle.forest.specs.Claims.{Above, itself, over, climb, Acyclic, Within}
 use Rattle.forest.specs.Forest.{parent, ancestorsWithin, ancestors, above, ownAncestor, cyclicUnits}
@@ -201,4 +201,4 @@ ends-at-root {n} {ps} w acyclic u l = root-within n n ps w acyclic u l
     inside : Subset (ancestors ps u) (below n)
     inside a m =
         let r = above-sound ps a u m in
-        member-below-set n a ∙ and-both (ltb a 32) (ltb a n) (lt-ltb a 32 (above-unit r .0)) (lt-ltb a n (stays-within w l r))
+        in-below n a (above-unit r .0) (stays-within w l r)

@@ -14,7 +14,7 @@ use lib.ListN.{getD}
 use Rattle.sets.specs.Sets.{member, intersection, lowest}
 use Rattle.sets.proofs.Bools.{either, clash, not-true-false, and-left, and-right, and-both, or-left, or-right, or-cases}
 use Rattle.sets.proofs.Bools.{false-of-not, not-of-false}
-use Rattle.sets.proofs.Laws.{member-empty, member-intersection, member-union, member-collect, member-below, member-below-set}
+use Rattle.sets.proofs.Laws.{member-empty, member-intersection, member-union, member-collect, member-below, in-below}
 use Rattle.sets.proofs.Laws.{intersection-below, below-is, lowest-least, lowest-of-some, collect-none, none-collect}
 use Rattle.forest.specs.Forest.{parent, ancestors, above, aboveEvery, aboveSome, primary, hasPrimary, onRoute, route}
 use Rattle.forest.specs.Forest.{lacksPrimary, withoutPrimary}
@@ -52,7 +52,7 @@ every-sound (suc k) ps g a h m l i =
 every-complete : (k : ℕ) (ps : List ℕ) (g a : ℕ) → a < 32 → ((m : ℕ) → member g m ≡ true → Above ps a m)
     → member (aboveEvery k ps g) a ≡ true
 unfolding aboveEvery
-every-complete zero ps g a l h = ap (λ (x : ℕ). member x a) (below-is 32 (lit≤ tt)) ∙ member-below-set 32 a ∙ simp (lt-ltb a 32 l)
+every-complete zero ps g a l h = ap (λ (x : ℕ). member x a) (below-is 32 (lit≤ tt)) ∙ in-below 32 a l l
 every-complete (suc k) ps g a l h =
     every-turn k ps g a ∙ and-both (member (aboveEvery k ps g) a) _ (every-complete k ps g a l h) (⊎-elim
     (λ (i : member g k ≡ true). or-right (not (member g k)) (above ps a k) (above-complete ps a k (h k i)))

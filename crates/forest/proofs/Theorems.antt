@@ -1,7 +1,7 @@
 -- What holds of every unrefused `build` and `check`, over what the calls answer. docs/PROOFS.md leads here. Assumes nothing.
 use mathlib.Core.Path.{_≡_, refl, sym, ap, subst, _∙_}
 use mathlib.Core.Logic.{inl, inr, ⊎-elim, by-cases}
-use mathlib.Core.Bool.{Bool, true, false, not, _||_, cond, and-false, true≢false}
+use mathlib.Core.Bool.{Bool, true, false, not, _||_, and-false, true≢false}
 use mathlib.Core.List.{List, [], _∷_}
 use Prim.Native.Nat.{ℕ, _≤_, _<_, _^_}
 use native.Mathlib.Nat.{lt-of-lt-of-le, lt-of-le-of-lt}
@@ -9,25 +9,25 @@ use native.Mathlib.Decide.{ℕ-discrete, decLt}
 use native.Mathlib.Omega.{arith}
 use lib.ListN.{length, getD}
 use lib.Dec.{ltb, leb, eqb, lit≤}
-use borrow.Author.Tests.{lt-ltb, le-ltb, ltb-true, ltb-false, lt-leb, le-leb, eq-eqb, eqb-true, eqb-false, ne-eqb}
+use borrow.Author.Tests.{lt-ltb, ltb-false, lt-leb, le-leb, eq-eqb, eqb-true, eqb-false, ne-eqb}
 use Rattle.sets.specs.Sets.{member, difference, lowest, below}
-use Rattle.sets.proofs.Bools.{either, clash, and-left, and-right, and-both, not-of-false, cond-false}
-use Rattle.sets.proofs.Laws.{member-difference, member-below-set, lowest-of-some, not-empty, below-below, difference-none}
+use Rattle.sets.proofs.Bools.{either, clash, and-left, and-right, and-both, not-of-false}
+use Rattle.sets.proofs.Laws.{member-difference, below-in, lowest-of-some, not-empty, below-below, difference-none}
 use Rattle.sets.proofs.Laws.{collect-none, none-collect}
 use Rattle.forest.specs.Forest.{parent, hasPrimary, cyclicUnits, withoutPrimary, accepted}
-use Rattle.layout.specs.Build.{builtParent, built}
-use Rattle.forest.specs.Calls.{countedAt, counted, drawnAt, drawn, badCounts, emptyAt, emptyGroups, outsideAt}
+use Rattle.layout.specs.Build.{built}
+use Rattle.forest.specs.Calls.{countedAt, counted, drawn, badCounts, emptyAt, emptyGroups, outsideAt}
 use Rattle.forest.specs.Calls.{outsideGroups, outsideParent, outsideParents, refuse, groupsRefusal, drawingRefusal, orRoots}
 use Rattle.forest.specs.Calls.{buildRefusal, buildParents, checkRefusal, checkParents}
 use Rattle.forest.specs.Claims.{Within, AcceptedForest, LaidByRule, ComponentsAreParts}
-use Rattle.layout.proofs.Tables.{length-tabulate, getD-tabulate, getD-past, same-tables}
+use Rattle.layout.proofs.Tables.{length-tabulate, getD-past}
 use Rattle.forest.proofs.Shared.{no-difference, groups-rest}
 use Rattle.forest.proofs.Ancestry.{acyclic-of, of-acyclic, ends-at-root}
 use Rattle.forest.proofs.Primaries.{primary-is, primary-unique, on-route, route-has, members-on-route, parent-on-route}
 use Rattle.forest.proofs.Primaries.{without-primary-none, none-without-primary}
 use Rattle.layout.proofs.Laid.{Bench, in-rest, root-small, bench-part, bench-component, rest-part, rest-component}
 use Rattle.layout.proofs.Laid.{laid-facts, laid-once, lonely-root}
-use Rattle.forest.proofs.Accepted.{built-parent, rule-parent, lonely-childless, built-acyclic, built-within, built-primary}
+use Rattle.forest.proofs.Accepted.{past-drawn, built-cut, built-parent, rule-parent, lonely-childless, built-acyclic, built-within, built-primary}
 
 -- ---- what an unrefused input is
 
@@ -67,7 +67,7 @@ inside-units : (n g : ℕ) → difference g (below n) ≡ 0 → (g < 2 ^ 32) × 
 inside-units n g e = (
   lt-of-le-of-lt (difference-none g (below n) e) (below-below n),
   λ u m. ⊎-elim
-      (λ (a : member (below n) u ≡ true). ltb-true u n (and-right (ltb u 32) (ltb u n) (sym (member-below-set n u) ∙ a)))
+      (below-in n u)
       (λ (a : member (below n) u ≡ false). absurd (not-empty (difference g (below n)) u
       (member-difference g (below n) u ∙ and-both (member g u) (not (member (below n) u)) m (not-of-false (member (below n) u) a)) e))
       (either (member (below n) u)),
@@ -164,16 +164,6 @@ components-are-parts n c gs e =
 
 -- ---- a built forest is always accepted
 
-same-cut : (n : ℕ) (gs : List ℕ) → drawn n (built n gs) ≡ built n gs
-unfolding drawn drawnAt built
-same-cut n gs = same-tables 32 (drawnAt n (built n gs)) (λ u. cond (ltb u n) (builtParent gs u) 255)
-    (λ u b. ap (λ (x : ℕ). cond (ltb u n) x 255) (getD-tabulate 32 (λ v. cond (ltb v n) (builtParent gs v) 255) u 255 b) ∙ twice (ltb u n)
-    (builtParent gs u))
-  where
-    twice : (b : Bool) (x : ℕ) → cond b (cond b x 255) 255 ≡ cond b x 255
-    twice true x = refl
-    twice false x = refl
-
 -- parents that are units or none are no refusal
 within-good : (n : ℕ) (ps : List ℕ) → Within n ps → outsideParents n ps ≡ 0
 unfolding outsideParents outsideParent
@@ -194,18 +184,12 @@ pub build-accepted : (n c : ℕ) (gs : List ℕ) → buildRefusal n c gs ≡ []
 unfolding buildRefusal checkRefusal checkParents orRoots
 build-accepted n c gs e =
     let good = groups-good n c gs [] e .0 in
-    let cut : drawn n (buildParents n c gs) ≡ built n (counted c gs) = ap (drawn n) (built-answer n c gs e) ∙ same-cut n (counted c gs) in
+    let cut : drawn n (buildParents n c gs) ≡ built n (counted c gs) = ap (drawn n) (built-answer n c gs e) ∙ built-cut n (counted c gs) in
     let none : checkRefusal n c gs (buildParents n c gs) ≡ [] =
     good-groups n c (counted c gs) _ e ∙ ap (drawingRefusal n c (counted c gs)) cut ∙ built-refusal n c (counted c gs) good in
     (none, ap (λ (l : List ℕ). orRoots l (drawn n (buildParents n c gs))) none ∙ cut ∙ sym (built-answer n c gs e))
 
 -- ---- an accepted forest
-
-past-drawn : (n : ℕ) (ps : List ℕ) (u : ℕ) → n ≤ u → parent (drawn n ps) u ≡ 255
-unfolding parent drawn drawnAt
-past-drawn n ps u h = by-cases (decLt u 32)
-    (λ b. getD-tabulate 32 (drawnAt n ps) u 255 b ∙ cond-false (ltb u n) (getD ps u 255) 255 (le-ltb u n h))
-    (λ b. getD-past 32 (drawnAt n ps) u 255 (omega arith))
 
 -- parents that are no refusal are units or none
 good-within : (n : ℕ) (ps : List ℕ) → n ≤ 32 → outsideParents n (drawn n ps) ≡ 0 → Within n (drawn n ps)

@@ -10,15 +10,15 @@ use native.Mathlib.Decide.{ℕ-discrete, decLt}
 use native.Mathlib.Omega.{arith}
 use lib.ListN.{getD}
 use lib.Dec.{ltb, eqb, lit≤}
-use borrow.Author.Tests.{lt-ltb, eq-eqb, ne-eqb, ltb-true}
+use borrow.Author.Tests.{lt-ltb, eq-eqb, ne-eqb}
 use Rattle.sets.specs.Sets.{member, excluding, size, below}
 use Rattle.sets.proofs.Bools.{either, clash, and-left, and-right, and-both, not-of-false, false-of-not, same-test, cond-true, cond-false}
-use Rattle.sets.proofs.Laws.{Subset, member-below-set, member-excluding, member-difference, member-collect, same-members}
+use Rattle.sets.proofs.Laws.{Subset, in-below, below-in, member-excluding, member-difference, member-collect, same-members}
 use Rattle.sets.proofs.Laws.{size-less, size-below, size-positive}
 use Rattle.layout.specs.Build.{itself, holdsAt, groupsOf, setAside, component, root, parentWithin, builtParent}
 use Rattle.layout.specs.Build.{IsRoot, IsPart, Laid, whole, smaller}
 use Rattle.layout.specs.Build.{RootOf, Same}
-use Rattle.layout.proofs.Parts.{Table, Closed, place-below, joined-among, component-keeps, component-below, component-self}
+use Rattle.layout.proofs.Parts.{Table, Closed, units-closed, place-below, joined-among, component-keeps, component-below, component-self}
 use Rattle.layout.proofs.Parts.{component-closed, component-joined, joined-component, component-same}
 use Rattle.layout.proofs.Roots.{root-is, root-unique, root-found}
 
@@ -97,17 +97,6 @@ module _ (n : ℕ) (gs : List ℕ) (bench : Bench n gs) where
     same = λ v m. component-same gs live (bench .table) u v (unit-small h) m;
   }
 
-  pub all-closed : (live : ℕ) → Closed gs live (below n)
-  unfolding Closed
-  all-closed live i u v l a b m = let h = bench .within i v b in member-below-set n v ∙ and-both (ltb v 32) (ltb v n)
-      (lt-ltb v 32 (unit-small h)) (lt-ltb v n h)
-
-  below-unit : (u : ℕ) → member (below n) u ≡ true → u < n
-  below-unit u m = ltb-true u n (and-right (ltb u 32) (ltb u n) (sym (member-below-set n u) ∙ m))
-
-  unit-below : (u : ℕ) → u < n → member (below n) u ≡ true
-  unit-below u h = member-below-set n u ∙ and-both (ltb u 32) (ltb u n) (lt-ltb u 32 (unit-small h)) (lt-ltb u n h)
-
   -- the rest of a part is closed over the groups left: no chain leads out of it
   module _ (s live r : ℕ) (f : Facts n gs s live) (rm : member s r ≡ true) where
     pub root-small : r < 32
@@ -148,12 +137,15 @@ module _ (n : ℕ) (gs : List ℕ) (bench : Bench n gs) where
 
   -- ---- laid parts
 
+  bench-closed : Closed gs (below 24) (below n)
+  bench-closed = units-closed n gs (below 24) (bench .few) (bench .within)
+
   pub bench-part : (u : ℕ) → u < n → IsPart gs (below 24) (below n) (component gs (below 24) u)
-  bench-part u h = component-part gs (below 24) (below n) (bench .table) (all-closed (below 24)) (λ v m. unit-small (below-unit v m)) u
-      (unit-below u h)
+  bench-part u h = component-part gs (below 24) (below n) (bench .table) bench-closed (λ v m. unit-small (below-in n v m)) u
+      (in-below n u (unit-small h) h)
 
   pub bench-component : {s : ℕ} (p : IsPart gs (below 24) (below n) s) → s ≡ component gs (below 24) (p .unit)
-  bench-component p = part-component gs (below 24) (below n) (bench .table) (all-closed (below 24)) (λ v m. unit-small (below-unit v m)) p
+  bench-component p = part-component gs (below 24) (below n) (bench .table) bench-closed (λ v m. unit-small (below-in n v m)) p
 
   pub whole-part : (u : ℕ) → u < n → Laid n gs (component gs (below 24) u) (below 24) 255
   whole-part u h = whole (bench-part u h)
@@ -161,7 +153,7 @@ module _ (n : ℕ) (gs : List ℕ) (bench : Bench n gs) where
   pub laid-facts : {s live top : ℕ} → Laid n gs s live top → Facts n gs s live
   laid-facts (whole {s} p) =
       subst (λ (x : ℕ). Facts n gs x (below 24)) (sym (bench-component p))
-      (component-facts (below 24) (p .unit) (below-unit (p .unit) (p .inside)))
+      (component-facts (below 24) (p .unit) (below-in n (p .unit) (p .inside)))
   laid-facts (smaller {s} {live} {top} {t} r l q p) =
       let f = laid-facts l in
       let m = in-rest s r (p .unit) (root-small s live r f (q .inside)) (p .inside) in

@@ -10,10 +10,10 @@ use native.Mathlib.Omega.{arith}
 use lib.ListN.{length, getD, set}
 use lib.Seq.{getD-set-same, getD-set-other}
 use lib.Dec.{eqb}
-use borrow.Author.Tests.{eq-eqb, ne-eqb, lt-ltb}
+use borrow.Author.Tests.{eq-eqb, ne-eqb}
 use Rattle.sets.specs.Sets.{member, difference, excluding, size, lowest, below}
 use Rattle.sets.proofs.Bools.{either, clash, and-left, and-right, and-both, not-of-false, false-of-not, not-true-false, cond-true, cond-false}
-use Rattle.sets.proofs.Laws.{Subset, member-below, member-below-set, member-difference, member-empty, difference-below}
+use Rattle.sets.proofs.Laws.{Subset, member-below, in-below, member-difference, member-empty, difference-below}
 use Rattle.sets.proofs.Laws.{excluding-below, size-subset, size-less, size-excluding, size-below, lowest-of-some, not-empty}
 use Rattle.sets.proofs.Laws.{not-member, below-below, none-collect}
 use Rattle.layout.specs.Tables.{tabulate}
@@ -234,14 +234,13 @@ module _ {gs of : List ℕ} {part live r fewer all : ℕ} (tab : Table gs) (smal
 pub all-starts : {gs before : List ℕ} {live all : ℕ} → Table gs → live ≡ below 24 → all ≡ below 32 → length before ≡ 32
     → Laying gs live 255 all before before all
 all-starts {gs} tab e f l = rw (e, f) (laying-none l (below-below 32)
-    (λ u v m a. member-below-set 32 v ∙ simp
-    (lt-ltb v 32 (member-below 32 (component gs (below 24) u) v (component-below gs (below 24) tab u) a))))
+    (λ u v m a. let h = member-below 32 (component gs (below 24) u) v (component-below gs (below 24) tab u) a in in-below 32 v h h))
 
 pub all-ends : {gs before table : List ℕ} {live all rest : ℕ} → live ≡ below 24 → all ≡ below 32 → Laying gs live 255 all before table rest
     → rest ≡ 0
     → table ≡ tabulate 32 (builtParent gs)
 unfolding builtParent
 all-ends {gs} {before} {table} {live} {all} {rest} e f y z = tabulated 32 (builtParent gs) table 255 (y .long)
-    (λ u b. y .done u 32 (ap (λ (x : ℕ). member x u) f ∙ member-below-set 32 u ∙ simp (lt-ltb u 32 b))
+    (λ u b. y .done u 32 (ap (λ (x : ℕ). member x u) f ∙ in-below 32 u b b)
     (ap (λ (x : ℕ). member x u) z ∙ member-empty u) (size-below all)
     ∙ ap (λ (x : ℕ). parentWithin 32 gs x 255 u) e)

@@ -8,7 +8,7 @@ use native.Mathlib.Nat.{not-suc-le-zero, le-of-suc-le-suc, lt-irrefl, le-antisym
 use native.Mathlib.Numerals.{add-one}
 use native.Mathlib.Omega.{arith}
 use borrow.Author.Count.{below-more}
-use lib.ListN.{length, getD, set, length-set, List·getD-eq-default}
+use lib.ListN.{length, getD, set, length-set}
 use lib.Seq.{getD-set-same, getD-set-other}
 use Rattle.sets.specs.Sets.{includingIf, collect}
 use Rattle.sets.proofs.Bools.{cond-true, cond-false}
@@ -22,10 +22,6 @@ pub getD-any : (l : List ℕ) (i d e : ℕ) → i < length l → getD l i d ≡ 
 getD-any [] i d e h = absurd (not-suc-le-zero h)
 getD-any (x ∷ l) zero d e h = refl
 getD-any (x ∷ l) (suc i) d e h = getD-any l i d e (le-of-suc-le-suc h)
-
--- past the list the default stands
-pub getD-beyond : (l : List ℕ) (i d : ℕ) → length l ≤ i → getD l i d ≡ d
-getD-beyond l i d h = List·getD-eq-default l d h
 
 -- ---- loops
 

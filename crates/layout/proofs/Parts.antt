@@ -4,7 +4,7 @@ use mathlib.Core.Logic.{_⊎_, inl, inr, ⊎-elim, by-cases}
 use mathlib.Core.Bool.{Bool, true, false, not, _&&_, cond}
 use mathlib.Core.List.{List}
 use Prim.Native.Nat.{ℕ, zero, suc, _+_, _≤_, _<_, _^_}
-use native.Mathlib.Nat.{lt-irrefl}
+use native.Mathlib.Nat.{lt-irrefl, le-refl, le-trans}
 use native.Mathlib.Decide.{ℕ-discrete, decLt, le-ind}
 use native.Mathlib.Omega.{arith}
 use lib.ListN.{length, getD, List·getD-eq-default}
@@ -14,7 +14,7 @@ use Rattle.sets.specs.Sets.{member, single, union, intersection, size, lowest, 
 use Rattle.sets.proofs.Bools.{clash, and-left, and-right, and-both, or-cases, or-left, or-right, not-of-false, false-of-not}
 use Rattle.sets.proofs.Bools.{same-test, cond-true}
 use Rattle.sets.proofs.Laws.{Subset, member-union, member-intersection, member-single, member-empty, member-below}
-use Rattle.sets.proofs.Laws.{member-below-set, same-members, union-below, single-below, size-grows, size-below, size-positive}
+use Rattle.sets.proofs.Laws.{in-below, same-members, union-below, single-below, size-grows, size-below, size-positive}
 use Rattle.sets.proofs.Laws.{not-empty, intersection-below, lowest-of-some}
 use Rattle.layout.specs.Build.{Joined, itself, together, chain, absorbed, spread, rounds, component}
 
@@ -214,18 +214,17 @@ module _ (gs : List ℕ) (live : ℕ) where
       pub joined-component : (u v : ℕ) → u < 32 → Joined gs live among u v → member (component gs live u) v ≡ true
       joined-component u v h j = joined-in (component gs live u) (component-closed u h) j (component-self u h)
 
--- every live group lies among the 32 places
-all-closed : (gs : List ℕ) (live : ℕ) → Table gs → Closed gs live (below 32)
+-- groups of the first n units lie among them
+pub units-closed : (n : ℕ) (gs : List ℕ) (live : ℕ) → n ≤ 32 → ((i u : ℕ) → member (getD gs i 0) u ≡ true → u < n) → Closed gs live (below n)
 unfolding Closed
-all-closed gs live tab i u v l a b m =
-    member-below-set 32 v ∙ simp (lt-ltb v 32 (member-below 32 (getD gs i 0) v (tab .bounded i) b))
+units-closed n gs live few within i u v l a b m = let h = within i v b in in-below n v (le-trans h few) h
 
 -- a component is the component of each of its units
 pub component-same : (gs : List ℕ) (live : ℕ) → Table gs → (u v : ℕ) → u < 32 → member (component gs live u) v ≡ true
     → component gs live v ≡ component gs live u
 component-same gs live tab u v h m =
-    let all = all-closed gs live tab in
-    let j = component-joined gs live tab (below 32) all u v (member-below-set 32 u ∙ simp (lt-ltb u 32 h)) m in
+    let all = units-closed 32 gs live (le-refl 32) (λ i w a. member-below 32 (getD gs i 0) w (tab .bounded i) a) in
+    let j = component-joined gs live tab (below 32) all u v (in-below 32 u h h) m in
     let hv = member-below 32 (component gs live u) v (component-below gs live tab u) m in
     same-members 32 (component gs live v) (component gs live u) (component-below gs live tab v) (component-below gs live tab u)
     (λ w b. same-test (member (component gs live v) w) (member (component gs live u) w)

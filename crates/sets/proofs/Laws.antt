@@ -226,9 +226,16 @@ unfolding collect
 collect-below zero f = pow-pos 32
 collect-below (suc k) f = includingIf-below (collect k f) k (f k) (collect-below k f)
 
-pub member-below-set : (n u : ℕ) → member (below n) u ≡ (ltb u 32 && ltb u n)
+member-below-set : (n u : ℕ) → member (below n) u ≡ (ltb u 32 && ltb u n)
 unfolding below
 member-below-set n u = member-collect 32 (λ v. ltb v n) u (lit≤ tt)
+
+-- a number is in `below n` where it is below n and a set holds it
+pub in-below : (n u : ℕ) → u < 32 → u < n → member (below n) u ≡ true
+in-below n u b h = member-below-set n u ∙ and-both (ltb u 32) (ltb u n) (lt-ltb u 32 b) (lt-ltb u n h)
+
+pub below-in : (n u : ℕ) → member (below n) u ≡ true → u < n
+below-in n u m = ltb-true u n (and-right (ltb u 32) (ltb u n) (sym (member-below-set n u) ∙ m))
 
 pub below-below : (n : ℕ) → below n < 2 ^ 32
 unfolding below

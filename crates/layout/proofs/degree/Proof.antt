@@ -3,13 +3,13 @@ use mathlib.Core.Path.{sym, ap, _∙_}
 use Rattle.sets.specs.Sets.{size}
 use Rattle.sets.proofs.Laws.{size-empty}
 use Rattle.layout.specs.Layout.{degreeIn}
-use Rattle.layout.proofs.Loops.{getD-beyond}
+use lib.ListN.{List·getD-eq-default}
 use Rattle.layout.proofs.degree.Statement.{statement}
 use Rattle.layout.proofs.degree.Tie as tie
 
 returns : tie.Need-returns
 unfolding degreeIn
-returns c = sym (ap size (getD-beyond (c .before .args .t1) (c .before .args .u) 0 (search needs)) ∙ size-empty)
+returns c = sym (ap size (List·getD-eq-default (c .before .args .t1) 0 (search needs)) ∙ size-empty)
 
 mul-size : tie.Need-mul-size
 mul-size c = search needs

@@ -4,14 +4,14 @@ use Prim.Native.Nat.{ℕ}
 use Rattle.sets.specs.Sets.{member}
 use Rattle.sets.proofs.Laws.{member-empty}
 use Rattle.layout.specs.Build.{holdsAt}
-use Rattle.layout.proofs.Loops.{getD-beyond}
+use lib.ListN.{List·getD-eq-default}
 use Rattle.layout.proofs.holds.Statement.{statement}
 use Rattle.layout.proofs.holds.Tie as tie
 
 returns : tie.Need-returns
 unfolding holdsAt
 returns c =
-    sym (ap (λ (x : ℕ). member x (c .before .args .u)) (getD-beyond (c .before .args .t1) (c .before .args .i) 0 (search needs))
+    sym (ap (λ (x : ℕ). member x (c .before .args .u)) (List·getD-eq-default (c .before .args .t1) 0 (search needs))
     ∙ member-empty (c .before .args .u))
 
 mul-member : tie.Need-mul-member

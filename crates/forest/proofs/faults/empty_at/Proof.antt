@@ -1,7 +1,7 @@
 use borrow.Author.Needs.{needs}
 use borrow.Author.Tests.{lt-ltb, le-ltb}
 use Rattle.forest.specs.Calls.{emptyAt}
-use Rattle.layout.proofs.Loops.{getD-beyond}
+use lib.ListN.{List·getD-eq-default}
 use Rattle.forest.proofs.faults.empty_at.Statement.{statement}
 use Rattle.forest.proofs.faults.empty_at.Tie as tie
 
@@ -12,7 +12,7 @@ returns c = simp (le-ltb _ _ (c .if1 .taken))
 returns-2 : tie.Need-returns-2
 unfolding emptyAt
 returns-2 c =
-    simp (lt-ltb _ _ (c .before .if1 .left), getD-beyond (c .before .before .args .t1) (c .before .before .args .i) 0 (search needs))
+    simp (lt-ltb _ _ (c .before .if1 .left), List·getD-eq-default (c .before .before .args .t1) 0 {n = c .before .before .args .i} (search needs))
 
 mul-result : tie.Need-mul-result
 mul-result c = search needs

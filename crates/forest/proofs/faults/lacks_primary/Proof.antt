@@ -1,7 +1,7 @@
 use borrow.Author.Needs.{needs}
 use borrow.Author.Tests.{lt-ltb, le-ltb}
 use Rattle.forest.specs.Forest.{hasPrimary, lacksPrimary}
-use Rattle.layout.proofs.Loops.{getD-beyond}
+use lib.ListN.{List·getD-eq-default}
 use Rattle.forest.proofs.Shared.{not-ltb, no-primary}
 use Rattle.forest.proofs.faults.lacks_primary.Statement.{statement}
 use Rattle.forest.proofs.faults.lacks_primary.Tie as tie
@@ -14,7 +14,7 @@ returns-2 : tie.Need-returns-2
 unfolding lacksPrimary hasPrimary
 returns-2 c =
     let args = c .before .before .args in
-    simp (lt-ltb _ _ (c .before .if1 .left), getD-beyond (args .t1) (args .i) 0 (search needs), no-primary)
+    simp (lt-ltb _ _ (c .before .if1 .left), List·getD-eq-default (args .t1) 0 {n = args .i} (search needs), no-primary)
 
 mul-primary : tie.Need-mul-primary
 mul-primary c = search needs

@@ -1,13 +1,13 @@
 use borrow.Author.Needs.{needs}
 use Rattle.forest.specs.Calls.{outsideAt}
-use Rattle.layout.proofs.Loops.{getD-beyond}
+use lib.ListN.{List·getD-eq-default}
 use Rattle.forest.proofs.Shared.{no-difference}
 use Rattle.forest.proofs.faults.outside_at.Statement.{statement}
 use Rattle.forest.proofs.faults.outside_at.Tie as tie
 
 returns : tie.Need-returns
 unfolding outsideAt
-returns c = simp (getD-beyond (c .before .args .t2) (c .before .args .i) 0 (search needs), no-difference)
+returns c = simp (List·getD-eq-default (c .before .args .t2) 0 {n = c .before .args .i} (search needs), no-difference)
 
 mul-difference : tie.Need-mul-difference
 mul-difference c = search needs

@@ -3,13 +3,14 @@ use borrow.Author.Tests.{le-leb, lt-leb}
 use mathlib.Core.Bool.{and-false}
 use Rattle.forest.specs.Forest.{parent}
 use Rattle.forest.specs.Calls.{outsideParent}
-use Rattle.layout.proofs.Loops.{getD-any, getD-beyond}
+use Rattle.layout.proofs.Loops.{getD-any}
+use lib.ListN.{List·getD-eq-default}
 use Rattle.forest.proofs.faults.outside_parent.Statement.{statement}
 use Rattle.forest.proofs.faults.outside_parent.Tie as tie
 
 returns : tie.Need-returns
 unfolding outsideParent parent
-returns c = simp (getD-beyond (c .before .args .t2) (c .before .args .u) 255 (search needs), and-false)
+returns c = simp (List·getD-eq-default (c .before .args .t2) 255 {n = c .before .args .u} (search needs), and-false)
 
 array-read-p : tie.Need-array-read-p
 array-read-p c = search needs

@@ -169,7 +169,7 @@ stays-within {ps = ps} w l (over {u = u} h r) = ⊎-elim
     (w .parents u)
 
 -- a unit has more ancestors than its parent
-fewer-ancestors : (ps : List ℕ) (u : ℕ) → Acyclic ps → u < 32 → size (ancestors ps (parent ps u)) < size (ancestors ps u)
+pub fewer-ancestors : (ps : List ℕ) (u : ℕ) → Acyclic ps → u < 32 → size (ancestors ps (parent ps u)) < size (ancestors ps u)
 unfolding above Acyclic Subset
 fewer-ancestors ps u acyclic h = size-less (ancestors ps (parent ps u)) (ancestors ps u) u
     (λ a m. above-complete ps a u (over h (above-sound ps a (parent ps u) m)))

@@ -129,7 +129,7 @@ members-on-route ps g m b h i =
     route-has ps g m (record { below-primary = top; member-below = (m, i, itself (above-unit top .1)) })
 
 -- below a unit and not it: so is the parent
-parent-below : {ps : List ℕ} {a u : ℕ} → Above ps a u → (u ≡ a → ⊥) → (u < 32) × Above ps a (parent ps u)
+pub parent-below : {ps : List ℕ} {a u : ℕ} → Above ps a u → (u ≡ a → ⊥) → (u < 32) × Above ps a (parent ps u)
 parent-below (itself h) n = absurd (n refl)
 parent-below (over h r) n = (h, r)
 

@@ -82,7 +82,7 @@ counted-long : (c : ℕ) (gs : List ℕ) → length (counted c gs) ≡ 24
 unfolding counted
 counted-long c gs = length-tabulate 24 (countedAt c gs)
 
-groups-good : (n c : ℕ) (gs rest : List ℕ) → groupsRefusal n c (counted c gs) rest ≡ [] → GoodGroups n c (counted c gs) × (rest ≡ [])
+pub groups-good : (n c : ℕ) (gs rest : List ℕ) → groupsRefusal n c (counted c gs) rest ≡ [] → GoodGroups n c (counted c gs) × (rest ≡ [])
 unfolding groupsRefusal emptyGroups emptyAt outsideGroups outsideAt
 groups-good n c gs rest e =
     let five = refuse-none (badCounts n c) 5 _ _ e in

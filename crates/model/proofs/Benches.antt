@@ -1,0 +1,134 @@
+-- P7 to P9 of document 01, and what its wrong turns get wrong, hold of the rules by computation. A group is written as its number: {0,3} is 9.
+use mathlib.Core.Path.{_≡_, refl, sym}
+use mathlib.Core.Bool.{true, false}
+use Prim.Native.Nat.{ℕ}
+use mathlib.Core.List.{List, [], _∷_, _++_, map}
+use lib.ListN.{replicate}
+use lib.Count.{onesIn, trailingZeros}
+use Rattle.sets.specs.Sets.{member, single, union, intersection, including, includingIf, size, lowest, collect}
+use Rattle.forest.specs.Forest.{onRoute, parent, ancestorsWithin, ancestors, above, aboveEvery, aboveSome, primary, route, routeSize}
+use Rattle.forest.proofs.Examples.{C, drawing, examples}
+use Rattle.model.specs.declared.Hop.{Hop}
+use Rattle.model.specs.Network.{Plan, groupOf, primaryOf, routeOf, routeSizeOf, Network, network, fresh, messageAt, hopAt, logOf}
+use Rattle.model.specs.Network.{hopsOf, isOut, isHeld, isTaken, withState, setState, isPair, countHops, pairCount, newHop, made}
+use Rattle.model.specs.Rules.{Answer, Refused, Sent, Repeat, Held, Taken, refuse, refused, answerOf, routeTotal, send, push, rising}
+use Rattle.model.specs.Rules.{childrenOn, forward, logged, takeHop, lower, lowestUntaken, placeOf, isHeldAt, nextHeld, tally, settle}
+use Rattle.model.specs.Rules.{hold, arrive, allTaken, quiescent}
+use Rattle.model.specs.Calls.{Call, Send, Arrive, call, Answered, answered, recorded, step, runFrom, run, networkOf, historyOf}
+use Rattle.model.specs.Calls.{LogRefused, Log, log, RestRefused, Rest, rest}
+use Rattle.model.specs.Demand3.{Planned, checked}
+
+-- one unit, group {0}
+abbrev pub single-unit : Plan
+single-unit = record { units = 1; count = 1; groups = 1 ∷ []; parents = replicate 32 255 }
+
+-- bench C, drawn as P4
+abbrev pub bench-C : Plan
+bench-C = record { units = 4; count = 4; groups = C; parents = drawing ++ replicate 28 255 }
+
+-- P1's groups {0,1,3} and {1,2,3} and its built forest: unit 1 has three children, two of them on the first group's route
+abbrev pub three-children : Plan
+three-children = record { units = 4; count = 2; groups = 11 ∷ 14 ∷ []; parents = (1 ∷ 255 ∷ 1 ∷ 1 ∷ []) ++ replicate 28 255 }
+
+-- one group of all 32 units, each but unit 0 a child of unit 0; and one of 17 of them
+abbrev pub star : Plan
+star = record { units = 32; count = 2; groups = 4294967295 ∷ 131071 ∷ []; parents = 255 ∷ replicate 31 0 }
+
+-- so many messages to a group
+abbrev pub after-sends : ℕ → ℕ → Network
+after-sends n g = network (replicate n (record { source = 0; group = g; word = 0 })) [] []
+
+-- `check` accepts bench C, so that the premise of the theorems is met
+pub C-planned : Planned bench-C
+C-planned = checked drawing (examples .p4 .unrefused) (sym (examples .p4 .right))
+
+-- calls lent whole lists, and their answers
+abbrev pub sends : ℕ → ℕ → ℕ → Call
+sends s g w = Send s g w 2000
+
+abbrev pub arrives : ℕ → Call
+arrives j = Arrive j 2000 6400
+
+unfoldable pub answered-with : Answered → Answer
+answered-with (answered c a) = a
+
+unfoldable pub answers : Plan → List Call → List Answer
+answers P cs = map answered-with (historyOf (run P cs))
+
+unfoldable pub hop : (sender receiver sequence message state : ℕ) → Hop
+hop s r q m k = record { sender = s; receiver = r; sequence = q; message = m; state = k }
+
+abbrev pub seven : List Call
+seven = sends 0 0 7 ∷ arrives 0 ∷ arrives 0 ∷ []
+
+abbrev pub eight : List Call
+eight = sends 3 0 500 ∷ sends 1 2 600 ∷ arrives 0 ∷ arrives 1 ∷ arrives 2 ∷ arrives 4 ∷ arrives 3 ∷ []
+
+abbrev pub two : List Call
+two = sends 0 0 7 ∷ sends 0 0 8 ∷ arrives 1 ∷ arrives 0 ∷ []
+
+pub record Benches : Type 0 where
+  -- hop 0 goes from 0 to 0; arrive 0 takes 1; arrive 0 again is a repeat
+  pub p7-answers : answers single-unit seven ≡ Sent 1 ∷ Taken 1 ∷ Repeat ∷ []
+  pub p7-hops : hopsOf (networkOf (run single-unit seven)) ≡ hop 0 0 1 1 2 ∷ []
+  -- hop 4 is held; hop 3 takes two
+  pub p8-answers : answers bench-C eight ≡ Sent 1 ∷ Sent 2 ∷ Taken 1 ∷ Taken 1 ∷ Taken 1 ∷ Held ∷ Taken 2 ∷ []
+  pub p8-hops : hopsOf (networkOf (run bench-C eight)) ≡ hop 3 0 1 1 2 ∷ hop 1 2 1 2 2 ∷ hop 0 2 1 1 2 ∷ hop 2 3 1 2 2 ∷ hop 2 3 2 1 2 ∷ []
+  pub p8-log-0 : log bench-C 0 6400 (networkOf (run bench-C eight)) ≡ Log (1 ∷ [])
+  pub p8-log-1 : log bench-C 1 6400 (networkOf (run bench-C eight)) ≡ Log []
+  -- unit 2 carries message 1 and does not log it
+  pub p8-log-2 : log bench-C 2 6400 (networkOf (run bench-C eight)) ≡ Log (2 ∷ [])
+  pub p8-log-3 : log bench-C 3 6400 (networkOf (run bench-C eight)) ≡ Log (2 ∷ 1 ∷ [])
+  pub p8-rest : rest 2000 (networkOf (run bench-C eight)) ≡ Rest true
+  pub p9 : answers bench-C (sends 4 9 0 ∷ []) ≡ Refused 12 ∷ []
+  -- sequence numbers count by pair: one source, two receivers
+  pub by-pair : map (λ h. h .sequence) (hopsOf (networkOf (run bench-C (sends 3 0 1 ∷ sends 3 2 2 ∷ sends 3 0 3 ∷ [])))) ≡ 1 ∷ 1 ∷ 2 ∷ []
+  -- one source, one group: the second message waits for the first, and the log has the sent order
+  pub order-answers : answers single-unit two ≡ Sent 1 ∷ Sent 2 ∷ Held ∷ Taken 2 ∷ []
+  pub order-log : log single-unit 0 6400 (networkOf (run single-unit two)) ≡ Log (1 ∷ 2 ∷ [])
+  -- hops to children in rising unit number
+  pub children : hopsOf (networkOf (run three-children (sends 2 0 7 ∷ arrives 0 ∷ [])))
+      ≡ hop 2 1 1 1 2 ∷ hop 1 0 1 1 0 ∷ hop 1 3 1 1 0 ∷ []
+  -- no rest before the arrival
+  pub sent-only : rest 2000 (networkOf (run bench-C (sends 3 0 1 ∷ []))) ≡ Rest false
+  -- refused in checking order; a list too short comes before everything else
+  pub refusals : answers bench-C (Send 4 9 0 1999 ∷ sends 0 4 0 ∷ arrives 0 ∷ Arrive 0 1999 6400 ∷ Arrive 0 2000 6399 ∷ [])
+      ≡ Refused 1 ∷ Refused 13 ∷ Refused 16 ∷ Refused 1 ∷ Refused 1 ∷ []
+  -- 200 messages have been sent
+  pub too-many : answerOf (send single-unit 0 0 7 (after-sends 200 0)) ≡ Refused 14
+  -- 62 times 32 and 17 are 2,001
+  pub too-far : answerOf (send star 0 1 7 (after-sends 62 0)) ≡ Refused 15
+  pub log-refused : log bench-C 4 6400 fresh ≡ LogRefused 17
+  pub log-short : log bench-C 4 6399 fresh ≡ LogRefused 1
+  pub rest-short : rest 1999 fresh ≡ RestRefused 1
+
+pub benches : Benches
+unfolding onesIn trailingZeros member single union intersection including includingIf size lowest collect onRoute parent
+    ancestorsWithin ancestors above aboveEvery aboveSome primary route routeSize groupOf primaryOf routeOf routeSizeOf
+    fresh messageAt hopAt logOf hopsOf isOut isHeld isTaken withState setState isPair countHops pairCount newHop made
+    refuse refused answerOf routeTotal send push rising childrenOn forward logged takeHop lower lowestUntaken placeOf
+    isHeldAt nextHeld tally settle hold arrive allTaken quiescent call recorded step runFrom run networkOf historyOf
+    log rest answered-with answers hop
+benches = record {
+  p7-answers = refl;
+  p7-hops = refl;
+  p8-answers = refl;
+  p8-hops = refl;
+  p8-log-0 = refl;
+  p8-log-1 = refl;
+  p8-log-2 = refl;
+  p8-log-3 = refl;
+  p8-rest = refl;
+  p9 = refl;
+  by-pair = refl;
+  order-answers = refl;
+  order-log = refl;
+  children = refl;
+  sent-only = refl;
+  refusals = refl;
+  too-many = refl;
+  too-far = refl;
+  log-refused = refl;
+  log-short = refl;
+  rest-short = refl;
+}

@@ -1,0 +1,17 @@
+pub mod Benches
+pub mod Lists
+pub mod Histories
+pub mod Chains
+pub mod Order
+pub mod Subtrees
+pub mod Hops
+pub mod Sequences
+pub mod Flow
+pub mod Logs
+pub mod Sound
+pub mod Idle
+pub mod Runs
+pub mod Planning
+pub mod Demand
+pub mod Replies
+pub mod Theorems

@@ -1,0 +1,48 @@
+-- What the forest of a plan has, be it built or checked. Assumes nothing.
+use mathlib.Core.Path.{_≡_, sym, subst, _∙_}
+use mathlib.Core.Bool.{true}
+use mathlib.Core.List.{List}
+use Prim.Native.Nat.{ℕ, _≤_, _<_}
+use native.Mathlib.Omega.{arith}
+use borrow.Author.Tests.{lt-ltb}
+use lib.ListN.{getD}
+use lib.Dec.{ltb}
+use Rattle.sets.specs.Sets.{member}
+use Rattle.sets.proofs.Bools.{cond-true}
+use Rattle.layout.proofs.Tables.{getD-tabulate}
+use Rattle.forest.specs.Forest.{primary, route}
+use Rattle.forest.specs.Calls.{countedAt, counted, buildRefusal, checkRefusal}
+use Rattle.forest.specs.Claims.{AcceptedForest}
+use Rattle.forest.proofs.Primaries.{parent-on-route}
+use Rattle.forest.proofs.Theorems.{groups-good, check-accepted, build-forest}
+use Rattle.model.specs.Network.{Plan, groupOf, primaryOf, routeOf}
+use Rattle.model.specs.Demand3.{Planned, built, checked}
+use Rattle.model.proofs.Sound.{Forest}
+
+counted-group : (c : ℕ) (gs : List ℕ) (g : ℕ) → c ≤ 24 → g < c → getD (counted c gs) g 0 ≡ getD gs g 0
+unfolding counted countedAt
+counted-group c gs g few b =
+    getD-tabulate 24 (countedAt c gs) g 0 (let z : g < 24 = omega arith in z) ∙ cond-true (ltb g c) (getD gs g 0) 0 (lt-ltb g c b)
+
+-- the parents ps are an accepted forest for the plan's units and groups
+abbrev AcceptedFor : Plan → List ℕ → Type 0
+AcceptedFor P ps = AcceptedForest (P .units) (P .count) (counted (P .count) (P .groups)) ps
+
+accepted-plan : (P : Plan) → P .count ≤ 24 → AcceptedFor P (P .parents) → Forest P
+unfolding groupOf primaryOf routeOf
+accepted-plan P few accepted = record {
+  few = accepted .within .few;
+  acyclic = accepted .acyclic;
+  primary-on = λ g b. subst (λ (s : ℕ). member (route (P .parents) s) (primary (P .parents) s) ≡ true) (counted-group _ (P .groups) g few b)
+      (accepted .members g _ b (accepted .primary-of g b .inside));
+  members-on = λ g u b. subst (λ (s : ℕ). member s u ≡ true → member (route (P .parents) s) u ≡ true) (counted-group _ (P .groups) g few b)
+      (accepted .members g u b);
+  parent-on = λ g u. parent-on-route (P .parents) (groupOf P g) u;
+}
+
+pub planned-forest : (P : Plan) → Planned P → Forest P
+unfolding buildRefusal checkRefusal
+planned-forest P (built e q) = accepted-plan P (groups-good _ _ _ _ e .0 .count)
+    (subst (AcceptedFor P) (sym q) (build-forest (P .units) (P .count) (P .groups) e))
+planned-forest P (checked drawing e q) = accepted-plan P (groups-good _ _ _ _ e .0 .count)
+    (subst (AcceptedFor P) (sym q) (check-accepted (P .units) (P .count) (P .groups) drawing e))

@@ -1,0 +1,118 @@
+-- Demand 3 of document 01, whole: a field for each sentence. Definitions only. That it holds of every list of calls is proved in
+-- proofs/Theorems.antt.
+use mathlib.Core.Path.{_≡_}
+use Prim.Native.Nat.{ℕ, _+_, _≤_}
+use mathlib.Core.Bool.{true}
+use mathlib.Core.List.{List, [], _∷_, _++_}
+use lib.ListN.{length}
+use Rattle.sets.specs.Sets.{member}
+use Rattle.forest.specs.Calls.{buildRefusal, buildParents, checkRefusal, checkParents}
+use Rattle.model.specs.Network.{Plan, groupOf, routeSizeOf, Network, logOf}
+use Rattle.model.specs.Rules.{Answer, Refused, Sent, Repeat, Held, Taken, quiescent}
+use Rattle.model.specs.Calls.{Send, Arrive, Answered, answered}
+
+-- the plan's forest comes from an unrefused `build` or `check` with the same units and groups
+pub data Planned (P : Plan) : Type 0 where
+  built : buildRefusal (P .units) (P .count) (P .groups) ≡ [] → P .parents ≡ buildParents (P .units) (P .count) (P .groups) → Planned P
+  checked : (drawing : List ℕ) → checkRefusal (P .units) (P .count) (P .groups) drawing ≡ []
+      → P .parents ≡ checkParents (P .units) (P .count) (P .groups) drawing → Planned P
+
+-- ---- lists
+
+-- x is an element
+pub data In {A : Type 0} (x : A) : List A → Type 0 where
+  here : {y : A} {l : List A} → x ≡ y → In x (y ∷ l)
+  there : {y : A} {l : List A} → In x l → In x (y ∷ l)
+
+-- a stands nearer the start than b
+pub data Before {A : Type 0} (a b : A) : List A → Type 0 where
+  first : {y : A} {l : List A} → a ≡ y → In b l → Before a b (y ∷ l)
+  later : {y : A} {l : List A} → Before a b l → Before a b (y ∷ l)
+
+-- no element stands there twice
+pub data Distinct {A : Type 0} : List A → Type 0 where
+  empty : Distinct []
+  adds : {x : A} {l : List A} → (In x l → ⊥) → Distinct l → Distinct (x ∷ l)
+
+-- ---- what is read off the calls and their answers
+
+-- a message as it was sent
+pub record SentMessage : Type 0 where
+  pub number : ℕ
+  pub source : ℕ
+  pub group : ℕ
+
+-- a message is sent by each send not turned away: its number is that answer, its source and group are that call's own
+unfoldable pub sentAs : ℕ → ℕ → Answer → List SentMessage
+sentAs s g (Refused k) = []
+sentAs s g (Sent m) = record { number = m; source = s; group = g } ∷ []
+sentAs s g Repeat = []
+sentAs s g Held = []
+sentAs s g (Taken n) = []
+
+unfoldable pub sentBy : Answered → List SentMessage
+sentBy (answered (Send s g w hops) a) = sentAs s g a
+sentBy (answered (Arrive j hops book) a) = []
+
+-- the messages sent, in the order of those calls
+unfoldable pub sent : List Answered → List SentMessage
+sent [] = []
+sent (x ∷ past) = sentBy x ++ sent past
+
+-- the number that an answer of taken carries
+unfoldable pub carried : Answer → ℕ
+carried (Refused k) = 0
+carried (Sent m) = 0
+carried Repeat = 0
+carried Held = 0
+carried (Taken n) = n
+
+-- the sum of the numbers carried by all answers of taken
+unfoldable pub takenTotal : List Answered → ℕ
+takenTotal [] = 0
+takenTotal (answered c a ∷ past) = carried a + takenTotal past
+
+-- the sum of the route sizes (document 01: way sizes) of the messages
+unfoldable pub sentTotal : Plan → List SentMessage → ℕ
+sentTotal P [] = 0
+sentTotal P (x ∷ xs) = routeSizeOf P (x .group) + sentTotal P xs
+
+-- ---- demand 3
+
+-- a is before b in some unit's log
+unfoldable pub BeforeSomewhere : Network → ℕ → ℕ → Type 0
+BeforeSomewhere W a b = (u : ℕ) × Before a b (logOf u W)
+
+-- messages from a to z, each before the next in some unit's log
+pub data Chain (W : Network) : ℕ → ℕ → List ℕ → Type 0 where
+  ends : {z : ℕ} → Chain W z z (z ∷ [])
+  next : {a b z : ℕ} {l : List ℕ} → BeforeSomewhere W a b → Chain W b z l → Chain W a z (a ∷ l)
+
+-- two or more different messages, each before the next in some unit's log and the last before the first in some unit's log
+pub record Circle (W : Network) : Type 0 where
+  pub start : ℕ
+  pub end : ℕ
+  pub messages : List ℕ
+  pub two-or-more : 2 ≤ length messages
+  pub different : Distinct messages
+  pub chain : Chain W start end messages
+  pub closes : BeforeSomewhere W end start
+
+-- of what a list of calls leaves, and of the calls with their answers
+pub record Demand3 (P : Plan) (W : Network) (past : List Answered) : Type 0 where
+  -- the logs have no circle
+  pub no-circle : Circle W → ⊥
+  -- in no log do two messages from one source to one group stand against their sent order
+  pub sent-order : (a b : SentMessage) → Before a b (sent past) → a .source ≡ b .source → a .group ≡ b .group
+      → (u : ℕ) → Before (b .number) (a .number) (logOf u W) → ⊥
+  -- each log holds only messages sent to groups that hold its unit
+  pub addressed : (u m : ℕ) → In m (logOf u W)
+      → (x : SentMessage) × In x (sent past) × (x .number ≡ m) × (member (groupOf P (x .group)) u ≡ true)
+  -- none twice
+  pub once : (u : ℕ) → Distinct (logOf u W)
+  -- the bench is at rest exactly when the answers of taken and the route sizes of the messages sent make the same sum
+  pub rest-sums : quiescent W ≡ true → takenTotal past ≡ sentTotal P (sent past)
+  pub sums-rest : takenTotal past ≡ sentTotal P (sent past) → quiescent W ≡ true
+  -- and each member's log then holds every message sent to its group
+  pub complete : quiescent W ≡ true → (x : SentMessage) → In x (sent past) → (u : ℕ) → member (groupOf P (x .group)) u ≡ true
+      → In (x .number) (logOf u W)

@@ -1,0 +1,105 @@
+-- The state of a bench (document 01, "The bench, message by message"): messages, hops and logs. Definitions only.
+use Prim.Native.Nat.{ℕ, suc, _-_}
+use mathlib.Core.Bool.{Bool, _&&_, cond}
+use mathlib.Core.List.{List, [], _∷_, _++_}
+use lib.ListN.{getD, set, replicate}
+use lib.Dec.{eqb}
+use Rattle.forest.specs.Forest.{primary, route, routeSize}
+use Rattle.model.specs.declared.Hop.{Hop}
+use Rattle.model.specs.declared.Message.{Message}
+
+-- ---- what a bench is made for
+
+-- units, groups (the first `count` places of a table) and the 32 parents of a forest
+pub record Plan : Type 0 where
+  pub units : ℕ
+  pub count : ℕ
+  pub groups : List ℕ
+  pub parents : List ℕ
+
+-- group g, its primary, its route (document 01: its way) and the route's size
+unfoldable pub groupOf : Plan → ℕ → ℕ
+groupOf P g = getD (P .groups) g 0
+
+unfoldable pub primaryOf : Plan → ℕ → ℕ
+primaryOf P g = primary (P .parents) (groupOf P g)
+
+unfoldable pub routeOf : Plan → ℕ → ℕ
+routeOf P g = route (P .parents) (groupOf P g)
+
+unfoldable pub routeSizeOf : Plan → ℕ → ℕ
+routeSizeOf P g = routeSize (P .parents) (groupOf P g)
+
+-- ---- the state of a bench
+
+-- messages in the order sent, hops in the order made, and a log for each of 32 units
+pub data Network : Type 0 where
+  network : (messages : List Message) (hops : List Hop) (logs : List (List ℕ)) → Network
+
+-- a fresh bench: no messages, no hops, empty logs
+unfoldable pub fresh : Network
+fresh = network [] [] (replicate 32 [])
+
+-- what a place not yet used holds
+unfoldable pub noMessage : Message
+noMessage = record { source = 0; group = 0; word = 0 }
+
+unfoldable pub noHop : Hop
+noHop = record { sender = 0; receiver = 0; sequence = 0; message = 0; state = 0 }
+
+-- message m; messages are numbered from 1
+unfoldable pub messageAt : List Message → ℕ → Message
+messageAt ms m = getD ms (m - 1) noMessage
+
+-- hop j; hops are numbered from 0
+unfoldable pub hopAt : List Hop → ℕ → Hop
+hopAt hs j = getD hs j noHop
+
+-- the messages sent, the hops made, and the log of unit u
+unfoldable pub messagesOf : Network → List Message
+messagesOf (network ms hs ls) = ms
+
+unfoldable pub hopsOf : Network → List Hop
+hopsOf (network ms hs ls) = hs
+
+unfoldable pub logOf : ℕ → Network → List ℕ
+logOf u (network ms hs ls) = getD ls u []
+
+-- a hop's state
+unfoldable pub isOut : Hop → Bool
+isOut h = eqb (h .state) 0
+
+unfoldable pub isHeld : Hop → Bool
+isHeld h = eqb (h .state) 1
+
+unfoldable pub isTaken : Hop → Bool
+isTaken h = eqb (h .state) 2
+
+-- hop j with another state
+unfoldable pub withState : ℕ → Hop → Hop
+withState k h = record { sender = h .sender; receiver = h .receiver; sequence = h .sequence; message = h .message; state = k }
+
+unfoldable pub setState : ℕ → ℕ → List Hop → List Hop
+setState j k hs = set hs j (withState k (hopAt hs j))
+
+-- ---- making a hop
+
+-- the hop goes from s to r
+unfoldable pub isPair : ℕ → ℕ → Hop → Bool
+isPair s r h = eqb (h .sender) s && eqb (h .receiver) r
+
+-- how many hops pass a test
+unfoldable pub countHops : (Hop → Bool) → List Hop → ℕ
+countHops test [] = 0
+countHops test (h ∷ hs) = let rest = countHops test hs in cond (test h) (suc rest) rest
+
+-- how many hops were made from s to r; s and r may be one unit
+unfoldable pub pairCount : ℕ → ℕ → List Hop → ℕ
+pairCount s r hs = countHops (isPair s r) hs
+
+-- one hop more, out: message m from s to r, its sequence number the pair's count plus one
+unfoldable pub newHop : ℕ → ℕ → ℕ → List Hop → Hop
+newHop s r m hs = record { sender = s; receiver = r; sequence = suc (pairCount s r hs); message = m; state = 0 }
+
+unfoldable pub made : ℕ → ℕ → ℕ → List Hop → List Hop
+made s r m hs = hs ++ newHop s r m hs ∷ []

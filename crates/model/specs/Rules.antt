@@ -1,0 +1,159 @@
+-- Rules of the bench (document 01, "The bench, message by message"): send, arrive, rest. Definitions only.
+use Prim.Native.Nat.{ℕ, zero, suc, _+_}
+use mathlib.Core.Bool.{Bool, true, false, not, _&&_, _||_, cond}
+use mathlib.Core.List.{List, [], _∷_, _++_}
+use lib.ListN.{length, getD, set}
+use lib.Dec.{ltb, leb, eqb}
+use Rattle.sets.specs.Sets.{member}
+use Rattle.forest.specs.Forest.{parent}
+use Rattle.model.specs.declared.Hop.{Hop}
+use Rattle.model.specs.declared.Message.{Message}
+use Rattle.model.specs.Network.{Plan, groupOf, primaryOf, routeOf, routeSizeOf, Network, network, messageAt, hopAt, hopsOf, isOut}
+use Rattle.model.specs.Network.{isHeld, isTaken, setState, isPair, made}
+
+-- ---- answers
+
+pub data Answer : Type 0 where
+  -- turned away, with document 01's number
+  Refused : ℕ → Answer
+  -- a send, with the message's number
+  Sent : ℕ → Answer
+  Repeat : Answer
+  Held : Answer
+  -- an arrival, with how many copies were taken
+  Taken : ℕ → Answer
+
+-- what a call answers and leaves
+pub data Outcome : Type 0 where
+  outcome : Answer → Network → Outcome
+
+-- the refusal where the test says so, else the rest
+unfoldable pub refuse : {A : Type 0} → Bool → A → A → A
+refuse true refusal rest = refusal
+refuse false refusal rest = rest
+
+-- turned away: nothing changes
+unfoldable pub refused : ℕ → Network → Outcome
+refused number W = outcome (Refused number) W
+
+unfoldable pub answerOf : Outcome → Answer
+answerOf (outcome a W) = a
+
+unfoldable pub leftOf : Outcome → Network
+leftOf (outcome a W) = W
+
+-- ---- send
+
+-- the route sizes of all messages sent
+unfoldable pub routeTotal : Plan → List Message → ℕ
+routeTotal P [] = 0
+routeTotal P (x ∷ xs) = routeSizeOf P (x .group) + routeTotal P xs
+
+-- a send is recorded and makes one hop, out, from the source to the group's primary; no log changes
+unfoldable pub send : Plan → (source group word : ℕ) → Network → Outcome
+send P s g w (network ms hs ls) =
+    let W = network ms hs ls in
+    let m = suc (length ms) in
+    refuse (leb (P .units) s) (refused 12 W)
+    (refuse (leb (P .count) g) (refused 13 W)
+    (refuse (leb 200 (length ms)) (refused 14 W)
+    (refuse (ltb 2000 (routeTotal P ms + routeSizeOf P g)) (refused 15 W)
+    (outcome (Sent m) (network (ms ++ record { source = s; group = g; word = w } ∷ []) (made s (primaryOf P g) m hs) ls)))))
+
+-- ---- taking one copy
+
+-- x in front of l where the test says so
+unfoldable pub push : {A : Type 0} → Bool → A → List A → List A
+push true x l = x ∷ l
+push false x l = l
+
+-- the numbers from i on, k of them, that pass a test, in rising order
+unfoldable pub rising : ℕ → ℕ → (ℕ → Bool) → List ℕ
+rising zero i test = []
+rising (suc k) i test = let rest = rising k (suc i) test in push (test i) i rest
+
+-- the children of u that are on a route
+unfoldable pub childrenOn : List ℕ → ℕ → ℕ → List ℕ
+childrenOn ps way u = rising 32 0 (λ c. eqb (parent ps c) u && member way c)
+
+-- a hop with message m from u to each of the units
+unfoldable pub forward : ℕ → ℕ → List ℕ → List Hop → List Hop
+forward u m [] hs = hs
+forward u m (c ∷ cs) hs = forward u m cs (made u c m hs)
+
+-- message m at the end of the log of u, where u is a member
+unfoldable pub logged : Bool → ℕ → ℕ → List (List ℕ) → List (List ℕ)
+logged true u m ls = set ls u (getD ls u [] ++ m ∷ [])
+logged false u m ls = ls
+
+-- hop j is taken: a receiver that is a member logs the message; then, for each child of the receiver that is on the group's route, a hop to
+-- that child is made
+unfoldable pub takeHop : Plan → ℕ → Network → Network
+takeHop P j (network ms hs ls) =
+    let h = hopAt hs j in
+    let g = messageAt ms (h .message) .group in
+    network ms
+    (forward (h .receiver) (h .message) (childrenOn (P .parents) (routeOf P g) (h .receiver)) (setState j 2 hs))
+    (logged (member (groupOf P g) (h .receiver)) (h .receiver) (h .message) ls)
+
+-- ---- arrive
+
+-- the lower of two sequence numbers, the second 0 where there is none
+unfoldable pub lower : ℕ → ℕ → ℕ
+lower q rest = cond (eqb rest 0 || ltb q rest) q rest
+
+-- the lowest sequence number from s to r not yet taken; 0 where all are taken
+unfoldable pub lowestUntaken : ℕ → ℕ → List Hop → ℕ
+lowestUntaken s r [] = 0
+lowestUntaken s r (h ∷ hs) = let rest = lowestUntaken s r hs in cond (isPair s r h && not (isTaken h)) (lower (h .sequence) rest) rest
+
+-- the place of the first hop that passes a test; as many as there are where none does
+unfoldable pub placeOf : (Hop → Bool) → List Hop → ℕ
+placeOf test [] = 0
+placeOf test (h ∷ hs) = let rest = placeOf test hs in cond (test h) 0 (suc rest)
+
+-- the hop from s to r has sequence number q and is held
+unfoldable pub isHeldAt : ℕ → ℕ → ℕ → Hop → Bool
+isHeldAt s r q h = isPair s r h && eqb (h .sequence) q && isHeld h
+
+-- the place of the hop from s to r with the lowest sequence number not yet taken, if it is held
+unfoldable pub nextHeld : ℕ → ℕ → List Hop → ℕ
+nextHeld s r hs = let q = lowestUntaken s r hs in placeOf (isHeldAt s r q) hs
+
+-- how many were taken, as an answer
+unfoldable pub tally : ℕ → Answer
+tally zero = Held
+tally (suc n) = Taken (suc n)
+
+-- as long as the lowest sequence number from s to r not yet taken is held, it is taken. n were taken before, and at most k are taken now:
+-- as many as there are hops are enough (theorem `settled`)
+unfoldable pub settle : ℕ → Plan → ℕ → ℕ → ℕ → Network → Outcome
+settle zero P s r n W = outcome (tally n) W
+settle (suc k) P s r n (network ms hs ls) =
+    let W = network ms hs ls in
+    let j = nextHeld s r hs in
+    let more = settle k P s r (suc n) (takeHop P j W) in
+    cond (ltb j (length hs)) more (outcome (tally n) W)
+
+-- hop j becomes held
+unfoldable pub hold : ℕ → Network → Network
+hold j (network ms hs ls) = network ms (setState j 1 hs) ls
+
+-- a hop that is held or taken is a repeat; one that is out becomes held, and then its pair is settled
+unfoldable pub arrive : Plan → ℕ → Network → Outcome
+arrive P j (network ms hs ls) =
+    let W = network ms hs ls in
+    let h = hopAt hs j in
+    let settled = settle (length hs) P (h .sender) (h .receiver) 0 (hold j W) in
+    refuse (leb (length hs) j) (refused 16 W) (cond (isOut h) settled (outcome Repeat W))
+
+-- ---- rest
+
+-- every hop is taken
+unfoldable pub allTaken : List Hop → Bool
+allTaken [] = true
+allTaken (h ∷ hs) = isTaken h && allTaken hs
+
+-- document 01: at rest
+unfoldable pub quiescent : Network → Bool
+quiescent W = allTaken (hopsOf W)

@@ -1,0 +1,17 @@
+// The records that the rules of the bench (specs/) and the relay's code share.
+
+// A hop: one copy of a message on the cable from a sender to a receiver. The state is 0 out, 1 held, 2 taken.
+pub struct Hop {
+    pub sender: u8,
+    pub receiver: u8,
+    pub sequence: u16,
+    pub message: u16,
+    pub state: u8,
+}
+
+// A message as it was sent.
+pub struct Message {
+    pub source: u8,
+    pub group: u8,
+    pub word: u16,
+}

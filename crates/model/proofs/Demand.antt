@@ -26,12 +26,12 @@ use Rattle.model.proofs.Histories.{Scheme, History, mail, taken, queue,
 use Rattle.model.proofs.Order.{Earlier, sender-first, sender-below, queue-sender, queue-mail, queue-on, taken-mail, taken-distinct}
 use Rattle.model.proofs.Order.{queued-sent, queued-passed, no-circle, sent-order}
 use Rattle.model.proofs.Subtrees.{subtree-positive, route-unit}
-use Rattle.model.proofs.Hops.{AllHops, sumHops, count-length}
+use Rattle.model.proofs.Hops.{AllHops, sumHops, bit, count-sum, count-length}
 use Rattle.model.proofs.Sequences.{Numbered, pair-ends, own-pair, sequence-limit}
 use Rattle.model.proofs.Flow.{schemeOf, hop-queue, queue-hop}
 use Rattle.model.proofs.Logs.{keep, keep-in, in-keep, keep-before, keep-distinct, in-reverse, reverse-in, before-reverse}
 use Rattle.model.proofs.Logs.{distinct-reverse, in-down, down-in, down-before, distinct-length}
-use Rattle.model.proofs.Sound.{Forest, Sound, message-old, addressed, unitsBelow, worth}
+use Rattle.model.proofs.Sound.{Forest, Sound, message-old, addressed, unitsBelow, potential}
 use Rattle.model.proofs.Runs.{numberedAs, enumerate}
 
 -- ---- messages read off the calls
@@ -106,23 +106,16 @@ taken-all (h ∷ hs) l = ⊎-elim
     (λ (t : isTaken h ≡ false). absurd (let z : suc (length hs) ≤ countHops isTaken hs = simp t at l in omega (arith, count-length isTaken hs)))
     (either (isTaken h))
 
-count-all : (hs : List Hop) → allTaken hs ≡ true → countHops isTaken hs ≡ length hs
-unfolding allTaken countHops
-count-all [] t = refl
-count-all (h ∷ hs) t = simp (and-left (isTaken h) _ t) (ap suc (count-all hs (and-right (isTaken h) _ t)))
-
--- a sum over hops that are all 1, or at least 1
+-- sums over hops that are each at least 1, or each the same
 sum-least : (f : Hop → ℕ) (hs : List Hop) → AllHops (λ h. 1 ≤ f h) hs → length hs ≤ sumHops f hs
 unfolding AllHops sumHops hopAt
 sum-least f [] all = omega arith
-sum-least f (h ∷ hs) all =
-    omega (arith, all zero (zero-lt-suc (length hs)), sum-least f hs (λ i b. all (suc i) (suc-le-suc b)))
+sum-least f (h ∷ hs) all = omega (arith, all zero (zero-lt-suc (length hs)), sum-least f hs (λ i b. all (suc i) (suc-le-suc b)))
 
-sum-ones : (f : Hop → ℕ) (hs : List Hop) → AllHops (λ h. f h ≡ 1) hs → sumHops f hs ≡ length hs
+sum-same : (f g : Hop → ℕ) (hs : List Hop) → AllHops (λ h. f h ≡ g h) hs → sumHops f hs ≡ sumHops g hs
 unfolding AllHops sumHops hopAt
-sum-ones f [] all = refl
-sum-ones f (h ∷ hs) all =
-    omega (arith, all zero (zero-lt-suc (length hs)), sum-ones f hs (λ i b. all (suc i) (suc-le-suc b)))
+sum-same f g [] all = refl
+sum-same f g (h ∷ hs) all = omega (arith, all zero (zero-lt-suc (length hs)), sum-same f g hs (λ i b. all (suc i) (suc-le-suc b)))
 
 module _ (P : Plan) (forest : Forest P) (T ms : List Message) (hs : List Hop) (ls : List (List ℕ)) (K : Sound P forest T ms hs ls) where
   abbrev S : Scheme
@@ -175,9 +168,9 @@ module _ (P : Plan) (forest : Forest P) (T ms : List Message) (hs : List Hop) (l
   -- ---- rest
 
   -- an untaken hop counts for at least its receiver
-  worth-some : AllHops (λ h. 1 ≤ worth P forest T h) hs
-  unfolding AllHops worth unitsBelow routeOf
-  worth-some i b =
+  potential-some : AllHops (λ h. 1 ≤ potential P forest T h) hs
+  unfolding AllHops potential unitsBelow routeOf
+  potential-some i b =
       let h : Hop = hopAt hs i in
       let q = hop-queue P (forest .acyclic) T (K .flow) (h .sender) (h .receiver) i b (own-pair h) in
       let on = queue-on S (K .flow .legal) (h .sender) (h .receiver) q in
@@ -211,7 +204,7 @@ module _ (P : Plan) (forest : Forest P) (T ms : List Message) (hs : List Hop) (l
   unfolding routeOf
   sender-unit m r i on = by-cases (ℕ-discrete r (S .primary m))
       (λ e. let n = numbered m i in
-      lt-of-lt-of-le (subst (λ (x : ℕ). x < P .units) (sym (sender-first S m r e)) (K .sources m (n .0) (n .1))) (forest .few))
+      lt-of-lt-of-le (subst (λ (x : ℕ). x < P .units) (sym (sender-first S m r e)) (K .admitted .sources m (n .0) (n .1))) (forest .few))
       (λ n. subst (λ (x : ℕ). x < 32) (sym (sender-below S m r n)) (route-unit (P .parents) _ (S .parent r) (forest .parent-on _ r on n)))
 
   record-within : length hs ≤ 2000 → (j : ℕ) → j < length hs → HopWithin ms (hopAt hs j)
@@ -231,12 +224,12 @@ module _ (P : Plan) (forest : Forest P) (T ms : List Message) (hs : List Hop) (l
   pub sound-limits : Limits P (network ms hs ls)
   unfolding messagesOf hopsOf
   sound-limits =
-      let hops : length hs ≤ routeTotal P ms = le-trans (sum-least (worth P forest T) hs worth-some) (le-of-eq (K .worths)) in record {
-        messages = K .few;
+      let hops : length hs ≤ routeTotal P ms = le-trans (sum-least (potential P forest T) hs potential-some) (le-of-eq (K .potentials)) in record {
+        messages = K .admitted .few;
         hops = hops;
-        routes = K .routes;
-        log = λ u. le-trans (distinct-length (length ms) (log-once u) (log-number u)) (K .few);
-        records = record-within (le-trans hops (K .routes));
+        routes = K .admitted .routes;
+        log = λ u. le-trans (distinct-length (length ms) (log-once u) (log-number u)) (K .admitted .few);
+        records = record-within (le-trans hops (K .admitted .routes));
       }
 
   -- ---- over the calls and their answers
@@ -283,19 +276,20 @@ module _ (P : Plan) (forest : Forest P) (T ms : List Message) (hs : List Hop) (l
         let g : x .group ≡ messageAt T m .group = listed-message x (listed x at′) .3 ∙ ap (λ (k : ℕ). messageAt T k .group) is-m in
         (x, at′, is-m, ap (λ (k : ℕ). member (groupOf P k) u) g ∙ log-in u m i .1)
 
-    sent-total : sentTotal P (sent past) ≡ sumHops (worth P forest T) hs
+    sent-total : sentTotal P (sent past) ≡ sumHops (potential P forest T) hs
     unfolding messagesOf
-    sent-total = ap (sentTotal P) sends ∙ total-enumerate P 1 ms ∙ sym (K .worths)
+    sent-total = ap (sentTotal P) sends ∙ total-enumerate P 1 ms ∙ sym (K .potentials)
 
     rest-sum : quiescent (network ms hs ls) ≡ true → takenTotal past ≡ sentTotal P (sent past)
-    unfolding quiescent hopsOf worth AllHops
+    unfolding quiescent hopsOf potential AllHops bit
     rest-sum t =
-        takes ∙ count-all hs t
-        ∙ sym (sent-total ∙ sum-ones (worth P forest T) hs (λ i b. cond-true (isTaken (hopAt hs i)) 1 _ (all-taken hs t i b)))
+        takes ∙ count-sum isTaken hs
+        ∙ sum-same (λ h. bit (isTaken h)) (potential P forest T) hs (λ i b.
+        let done = all-taken hs t i b in ap bit done ∙ sym (cond-true (isTaken (hopAt hs i)) 1 _ done)) ∙ sym sent-total
 
     sum-rest : takenTotal past ≡ sentTotal P (sent past) → quiescent (network ms hs ls) ≡ true
     unfolding quiescent hopsOf
-    sum-rest e = taken-all hs (le-trans (sum-least (worth P forest T) hs worth-some) (le-of-eq (sym (sym (takes) ∙ e ∙ sent-total))))
+    sum-rest e = taken-all hs (le-trans (sum-least (potential P forest T) hs potential-some) (le-of-eq (sym (sym (takes) ∙ e ∙ sent-total))))
 
     log-complete : quiescent (network ms hs ls) ≡ true → (x : SentMessage) → In x (sent past) → (u : ℕ) → member (groupOf P (x .group)) u ≡ true
         → In (x .number) (logOf u (network ms hs ls))
@@ -305,7 +299,7 @@ module _ (P : Plan) (forest : Forest P) (T ms : List Message) (hs : List Hop) (l
         let inside : addressed P forest T u (x .number) ≡ true = ap (λ (g : ℕ). member (groupOf P g) u) (sym group-is) ∙ at in
         let mailed : In (x .number) (mail H) =
         subst (λ (l : List ℕ). In (x .number) l) (sym (K .mails)) (down-in (length ms) (x .number) from to) in
-        let on = forest .members-on _ u (K .groups (x .number) from to) inside in
+        let on = forest .members-on _ u (K .admitted .groups (x .number) from to) inside in
         subst (λ (l : List ℕ). In (x .number) l) (sym (log-is u)) (reverse-in (in-keep (addressed P forest T u)
         (route-taken t (x .number) mailed (suc (S .depth u)) u (let z : S .depth u < suc (S .depth u) = omega arith in z) on) inside))
 

@@ -31,6 +31,7 @@ use Rattle.model.proofs.Sequences.{pair-ends, held-untaken, Next}
 
 -- ---- the queues that forwarding makes
 
+-- x is an element, as a test
 has : ℕ → List ℕ → Bool
 has x [] = false
 has x (c ∷ cs) = eqb c x || has x cs
@@ -45,10 +46,7 @@ unfolding has
 in-has x (c ∷ cs) (here e) = or-left (eqb c x) _ (eq-eqb c x (sym e))
 in-has x (c ∷ cs) (there i) = or-right (eqb c x) _ (in-has x cs i)
 
-pair-new : (v c m a b : ℕ) (hs : List Hop) → isPair a b (newHop v c m hs) ≡ (eqb v a && eqb c b)
-unfolding isPair newHop
-pair-new v c m a b hs = refl
-
+-- a hop to each of the units: their queues have the message on top
 queued-forward : (v m : ℕ) (cs : List ℕ) → Distinct cs → (a b : ℕ) (hs : List Hop)
     → queued a b (forward v m cs hs) ≡ push (eqb v a && has b cs) m (queued a b hs)
 unfolding forward made has newHop isPair push

@@ -8,56 +8,50 @@ use Prim.Native.Nat.{ℕ, zero, suc, _≤_, _<_}
 use native.Mathlib.Nat.{not-suc-le-zero, le-of-suc-le-suc}
 use native.Mathlib.Decide.{ℕ-discrete, decLt}
 use native.Mathlib.Omega.{arith}
-use borrow.Author.Tests.{eqb-true, eq-eqb}
 use lib.ListN.{length}
 use lib.Dec.{eqb}
-use Rattle.sets.proofs.Bools.{clash, and-left, and-right, and-both, not-true-false}
+use Rattle.sets.proofs.Bools.{clash, and-both, not-true-false}
 use Rattle.model.specs.declared.Hop.{Hop}
 use Rattle.model.specs.Network.{hopAt, isHeld, isTaken, withState, setState, isPair, countHops, newHop, made}
 use Rattle.model.specs.Rules.{forward, lowestUntaken, isHeldAt}
 use Rattle.model.specs.Claims.{Settled}
 use Rattle.model.proofs.Hops.{length-snoc, hop-old, hop-new, length-state, state-same, state-other, bit, count-state, count-forward}
-use Rattle.model.proofs.Sequences.{pair-ends, Numbered, held-untaken, older-taken, first-lowest, Next}
+use Rattle.model.proofs.Sequences.{pair-ends, Numbered, Next, held-next, next-held}
 
 -- nothing of the pair is to be taken
 unfoldable pub Idle : List Hop → ℕ → ℕ → Type 0
 Idle hs s r = (j : ℕ) → Next s r hs j → ⊥
 
 pub idle-settled : (hs : List Hop) (s r : ℕ) → Numbered hs → Idle hs s r → Settled s r hs
-unfolding Idle Settled isHeldAt
-idle-settled hs s r num idle j b = not-true-false (isHeldAt s r (lowestUntaken s r hs) (hopAt hs j)) (λ t.
-    let front = and-left (isPair s r (hopAt hs j) && eqb (hopAt hs j .sequence) (lowestUntaken s r hs)) _ t in
-    let p = and-left (isPair s r (hopAt hs j)) _ front in
-    idle j (record {
-      within = b;
-      pair = p;
-      held = and-right (isPair s r (hopAt hs j) && eqb (hopAt hs j .sequence) (lowestUntaken s r hs)) _ t;
-      older = older-taken s r hs num j b p (eqb-true _ _ (and-right (isPair s r (hopAt hs j)) _ front));
-    }))
+unfolding Idle Settled
+idle-settled hs s r num idle j b =
+    not-true-false (isHeldAt s r (lowestUntaken s r hs) (hopAt hs j)) (λ t. idle j (held-next s r hs num j b t))
 
 pub settled-idle : (hs : List Hop) (s r : ℕ) → Numbered hs → Settled s r hs → Idle hs s r
-unfolding Idle Settled isHeldAt
-settled-idle hs s r num settled j N =
-    let q = first-lowest s r hs num j (record { within = N .within; pair = N .pair; waits = held-untaken (hopAt hs j) (N .held) }) (N .older) in
-    clash (and-both (isPair s r (hopAt hs j) && eqb (hopAt hs j .sequence) (lowestUntaken s r hs)) (isHeld (hopAt hs j))
-    (and-both (isPair s r (hopAt hs j)) _ (N .pair) (eq-eqb _ (lowestUntaken s r hs) q)) (N .held))
-    (settled j (N .within))
+unfolding Idle Settled
+settled-idle hs s r num settled j N = clash (next-held s r hs num j N) (settled j (N .within))
 
--- ---- a new hop is out, and so not the next to be taken
+-- ---- what keeps a pair idle
 
+-- the next hop to be taken is so too in a list with the same hops of the pair up to it
+next-along : (s r : ℕ) (hs ks : List Hop) (j : ℕ) → Next s r ks j → j < length hs → hopAt ks j ≡ hopAt hs j
+    → ((i : ℕ) → i < j → isPair s r (hopAt hs i) ≡ true → hopAt ks i ≡ hopAt hs i) → Next s r hs j
+next-along s r hs ks j N b e same = record {
+  within = b;
+  pair = subst (λ (h : Hop). isPair s r h ≡ true) e (N .pair);
+  held = subst (λ (h : Hop). isHeld h ≡ true) e (N .held);
+  older = λ i l p.
+      let q = same i l p in
+      subst (λ (h : Hop). isTaken h ≡ true) q (N .older i l (subst (λ (h : Hop). isPair s r h ≡ true) (sym q) p));
+}
+
+-- a new hop is out, and so not the next to be taken
 next-made : (s r a b m : ℕ) (hs : List Hop) (j : ℕ) → Next s r (made a b m hs) j → Next s r hs j
 unfolding made newHop isHeld
 next-made s r a b m hs j N =
     let x : Hop = newHop a b m hs in
     by-cases (decLt j (length hs))
-    (λ c. record {
-      within = c;
-      pair = subst (λ (h : Hop). isPair s r h ≡ true) (hop-old hs x j c) (N .pair);
-      held = subst (λ (h : Hop). isHeld h ≡ true) (hop-old hs x j c) (N .held);
-      older = λ i l p.
-          let e = hop-old hs x i (let z : i < length hs = omega arith in z) in
-          subst (λ (h : Hop). isTaken h ≡ true) e (N .older i l (subst (λ (h : Hop). isPair s r h ≡ true) (sym e) p));
-    })
+    (λ c. next-along s r hs (hs ++ x ∷ []) j N c (hop-old hs x j c) (λ i l p. hop-old hs x i (let z : i < length hs = omega arith in z)))
     (λ c. let e : j ≡ length hs = omega (arith, N .within, length-snoc hs x) in
     absurd (clash (subst (λ (h : Hop). isHeld h ≡ true) (ap (hopAt (hs ++ x ∷ [])) e ∙ hop-new hs x) (N .held)) refl))
 
@@ -70,19 +64,12 @@ next-forward s r v m (c ∷ cs) hs j N = next-made s r v c m hs j (next-forward 
 next-state : (s r i k : ℕ) (hs : List Hop) → isPair s r (hopAt hs i) ≡ false → (j : ℕ) → Next s r (setState i k hs) j → Next s r hs j
 unfolding withState isPair
 next-state s r i k hs apart j N =
-    let same : (n : ℕ) → (n ≡ i → ⊥) → hopAt (setState i k hs) n ≡ hopAt hs n = state-other i k hs in
     let within : j < length hs = subst (λ (n : ℕ). j < n) (length-state i k hs) (N .within) in
     by-cases (ℕ-discrete j i)
     (λ e. absurd (clash (subst (λ (h : Hop). isPair s r h ≡ true) (ap (hopAt (setState i k hs)) e
     ∙ state-same i k hs (subst (λ (n : ℕ). n < length hs) e within)) (N .pair)) apart))
-    (λ n. record {
-      within = within;
-      pair = subst (λ (h : Hop). isPair s r h ≡ true) (same j n) (N .pair);
-      held = subst (λ (h : Hop). isHeld h ≡ true) (same j n) (N .held);
-      older = λ o l p.
-          let d : o ≡ i → ⊥ = λ e. clash (subst (λ (x : ℕ). isPair s r (hopAt hs x) ≡ true) e p) apart in
-          subst (λ (h : Hop). isTaken h ≡ true) (same o d) (N .older o l (subst (λ (h : Hop). isPair s r h ≡ true) (sym (same o d)) p));
-    })
+    (λ n. next-along s r hs (setState i k hs) j N within (state-other i k hs j n)
+    (λ o l p. state-other i k hs o (λ e. clash (subst (λ (x : ℕ). isPair s r (hopAt hs x) ≡ true) e p) apart)))
 
 pub idle-made : (a b m : ℕ) (hs : List Hop) (s r : ℕ) → Idle hs s r → Idle (made a b m hs) s r
 unfolding Idle

@@ -85,10 +85,6 @@ module _ {A : Type 0} where
   distinct-append-left [] r d = empty
   distinct-append-left (x ∷ l) r (adds n d) = adds (λ i. n (in-append-left r i)) (distinct-append-left l r d)
 
-  pub distinct-append-right : (l r : List A) → Distinct (l ++ r) → Distinct r
-  distinct-append-right [] r d = d
-  distinct-append-right (x ∷ l) r (adds n d) = distinct-append-right l r d
-
   pub distinct-append-apart : {x : A} (l r : List A) → Distinct (l ++ r) → In x l → In x r → ⊥
   distinct-append-apart [] r d i j = in-none i
   distinct-append-apart (y ∷ l) r (adds n d) (here e) j = n (in-append-right l (rw e at j))

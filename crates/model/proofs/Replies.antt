@@ -17,7 +17,7 @@ use Rattle.model.specs.Claims.{SendAnswer, no-source, no-group, too-many
 use Rattle.model.specs.Claims.{takes, inert}
 
 -- what holds of a refusal and of the rest
-refuse-either : {A : Type 0} (Q : A → Type 0) (b : Bool) (x y : A) → (b ≡ true → Q x) → (b ≡ false → Q y) → Q (refuse b x y)
+pub refuse-either : {A : Type 0} (Q : A → Type 0) (b : Bool) (x y : A) → (b ≡ true → Q x) → (b ≡ false → Q y) → Q (refuse b x y)
 unfolding refuse
 refuse-either Q true x y f g = f refl
 refuse-either Q false x y f g = g refl

@@ -6,8 +6,9 @@ use mathlib.Core.Bool.{Bool, true, false, _||_}
 use mathlib.Core.List.{List, [], _∷_, _++_, append-nil, append-assoc, map, map-append}
 use Prim.Native.Nat.{ℕ, zero, suc, _+_, _≤_, _<_}
 use native.Mathlib.Omega.{arith}
-use borrow.Author.Tests.{ltb-true, ltb-false, leb-false, eqb-true, ne-eqb}
+use borrow.Author.Tests.{ltb-true, ltb-false, leb-false}
 use lib.ListN.{length}
+use lib.Seq.{append-snoc}
 use lib.Dec.{ltb, leb}
 use Rattle.sets.specs.Sets.{member}
 use Rattle.sets.proofs.Bools.{either}
@@ -21,9 +22,9 @@ use Rattle.model.specs.Calls.{Call, Send, Arrive, call, Answered, answer
 use Rattle.model.specs.Demand3.{SentMessage, sentAs, sentBy, sent, carried, takenTotal}
 use Rattle.model.specs.Claims.{Settled, callOf, counting}
 use Rattle.model.proofs.Hops.{length-state, bit, count-snoc, count-state, count-forward, count-length}
-use Rattle.model.proofs.Sequences.{pair-ends, own-pair, held-untaken, place-none, Next, next-held}
-use Rattle.model.proofs.Sound.{Forest, Sound, message-old, snoc-assoc, sound-fresh, sound-sent, sound-held, sound-taken}
-use Rattle.model.proofs.Sound.{taken-number}
+use Rattle.model.proofs.Sequences.{pair-ends, own-pair, held-untaken, out-untaken, place-none, Next, next-found}
+use Rattle.model.proofs.Replies.{refuse-either}
+use Rattle.model.proofs.Sound.{Forest, Sound, message-old, sound-fresh, sound-sent, sound-held, sound-taken, taken-number}
 use Rattle.model.proofs.Idle.{Idle, settled-idle, idle-made, idle-forward, OthersIdle, others-state, all-idle, holds, idle-none}
 use Rattle.model.proofs.Idle.{fewer-held}
 
@@ -123,7 +124,7 @@ module _ (P : Plan) (forest : Forest P) where
       let num = ok ms [] (sym (append-nil ms)) .numbers in
       let j : ℕ = nextHeld s r hs in ⊎-elim
       (λ (t : ltb (nextHeld s r hs) (length hs) ≡ true).
-      let N = next-held s r hs num (ltb-true (nextHeld s r hs) (length hs) t) in
+      let N = next-found s r hs num (ltb-true (nextHeld s r hs) (length hs) t) in
       simp t (settles k s r (suc n) before ms _ _ (take-valid ms hs ls s r j ok N) (omega (arith, take-count ms hs ls s r j N))
       (λ a b d. idle-forward _ _ _ (setState j 2 hs) a b (others-state hs s r j 2 (N .pair) others a b d))
       (omega (
@@ -166,13 +167,12 @@ module _ (P : Plan) (forest : Forest P) where
 
   kept-refused : (past : List Answered) (W : Network) (c : Call) (b : Bool) (k : ℕ) (o : Outcome) → Kept past W
       → (b ≡ false → KeptBy c past o) → KeptBy c past (refuse b (refused k W) o)
-  unfolding refuse refused KeptBy sentBy sentAs carried
-  kept-refused past W c true k o K f = kept-same past W c (Refused k) K (unsent c) refl
+  unfolding refused KeptBy sentBy sentAs carried
+  kept-refused past W c b k o K f = refuse-either (KeptBy c past) b _ _ (λ t. kept-same past W c (Refused k) K (unsent c) refl) f
     where
       unsent : (d : Call) → sentBy (answered d (Refused k)) ≡ []
       unsent (Send s g w hops) = refl
       unsent (Arrive j hops book) = refl
-  kept-refused past W c false k o K f = f refl
 
   -- ---- each call
 
@@ -184,7 +184,7 @@ module _ (P : Plan) (forest : Forest P) where
   kept-sent past ms hs ls s g w hops K source group few routes =
       let x : Message = record { source = s; group = g; word = w } in record {
         valid = λ T after e.
-            sound-sent P forest T ms hs ls (K .valid T (x ∷ after) (e ∙ snoc-assoc ms x after)) x after e source group few routes;
+            sound-sent P forest T ms hs ls (K .valid T (x ∷ after) (e ∙ append-snoc ms x after)) x after e source group few routes;
         sends =
             sent-snoc past _ ∙ ap (λ (l : List SentMessage). l ++ numberedAs (suc (length ms)) x ∷ []) (K .sends)
             ∙ ap (λ (n : ℕ). enumerate 1 ms ++ numberedAs n x ∷ []) (let e : suc (length ms) ≡ length ms + 1 = omega arith in e)
@@ -209,10 +209,6 @@ module _ (P : Plan) (forest : Forest P) where
       → SettlesAs (messagesOf W) (countHops isTaken (hopsOf W)) o → KeptBy (Arrive j hops book) past o
   unfolding SettlesAs KeptBy sentBy
   settles-kept past W j hops book (outcome a W′) K X = kept-arrived past W W′ (Arrive j hops book) a K refl X
-
-  out-untaken : (h : Hop) → isOut h ≡ true → isTaken h ≡ false
-  unfolding isOut isTaken
-  out-untaken h e = ne-eqb (h .state) 2 (λ d. let z = eqb-true (h .state) 0 e in absurd (omega arith))
 
   kept-out : (past : List Answered) (ms : List Message) (hs : List Hop) (ls : List (List ℕ)) (j : ℕ) → Kept past (network ms hs ls)
       → j < length hs → isOut (hopAt hs j) ≡ true

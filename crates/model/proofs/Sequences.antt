@@ -14,7 +14,7 @@ use lib.Seq.{length-take-le, take-append-le, take-append-seam}
 use lib.Dec.{eqb, ltb}
 use Rattle.sets.proofs.Bools.{either, clash, and-left, and-right, and-both, false-of-not}
 use Rattle.model.specs.declared.Hop.{Hop}
-use Rattle.model.specs.Network.{hopAt, withState, setState, isPair, isTaken, isHeld, countHops, pairCount, newHop, made}
+use Rattle.model.specs.Network.{hopAt, withState, setState, isPair, isTaken, isHeld, isOut, countHops, pairCount, newHop, made}
 use Rattle.model.specs.Rules.{forward, lower, lowestUntaken, placeOf, isHeldAt, nextHeld}
 use Rattle.model.proofs.Hops.{length-snoc, hop-old, hop-new, length-state, state-same, state-other, count-length}
 
@@ -118,9 +118,18 @@ sequence-limit hs num j b =
 
 -- ---- the lowest number not yet taken
 
+-- a hop in another state is not taken
+state-untaken : (h : Hop) (k : ℕ) → (k ≡ 2 → ⊥) → eqb (h .state) k ≡ true → isTaken h ≡ false
+unfolding isTaken
+state-untaken h k n e = ne-eqb (h .state) 2 (λ d. n (sym (eqb-true (h .state) k e) ∙ d))
+
+pub out-untaken : (h : Hop) → isOut h ≡ true → isTaken h ≡ false
+unfolding isOut
+out-untaken h e = state-untaken h 0 (λ d. absurd (omega arith)) e
+
 pub held-untaken : (h : Hop) → isHeld h ≡ true → isTaken h ≡ false
-unfolding isTaken isHeld
-held-untaken h e = ne-eqb (h .state) 2 (λ d. let k = eqb-true (h .state) 1 e in absurd (omega arith))
+unfolding isHeld
+held-untaken h e = state-untaken h 1 (λ d. absurd (omega arith)) e
 
 lower-least : (q rest : ℕ) → 1 ≤ q → (1 ≤ lower q rest) × (lower q rest ≤ q) × (1 ≤ rest → lower q rest ≤ rest)
 unfolding lower
@@ -254,16 +263,30 @@ pub record Next (s r : ℕ) (hs : List Hop) (j : ℕ) : Type 0 where
   pub held : isHeld (hopAt hs j) ≡ true
   pub older : (i : ℕ) → i < j → isPair s r (hopAt hs i) ≡ true → isTaken (hopAt hs i) ≡ true
 
-pub next-held : (s r : ℕ) (hs : List Hop) → Numbered hs → nextHeld s r hs < length hs → Next s r hs (nextHeld s r hs)
-unfolding nextHeld isHeldAt
-next-held s r hs num b =
-    let j = nextHeld s r hs in
-    let t = place-found (isHeldAt s r (lowestUntaken s r hs)) hs b in
-    let pair = and-left (isPair s r (hopAt hs j) && eqb (hopAt hs j .sequence) (lowestUntaken s r hs)) _ t in
-    let p = and-left (isPair s r (hopAt hs j)) _ pair in
+-- a held hop with the lowest number not yet taken is such a hop, and only such a hop is
+pub held-next : (s r : ℕ) (hs : List Hop) → Numbered hs → (j : ℕ) → j < length hs
+    → isHeldAt s r (lowestUntaken s r hs) (hopAt hs j) ≡ true → Next s r hs j
+unfolding isHeldAt
+held-next s r hs num j b t =
+    let front = and-left (isPair s r (hopAt hs j) && eqb (hopAt hs j .sequence) (lowestUntaken s r hs)) _ t in
+    let p = and-left (isPair s r (hopAt hs j)) _ front in
     record {
       within = b;
       pair = p;
       held = and-right (isPair s r (hopAt hs j) && eqb (hopAt hs j .sequence) (lowestUntaken s r hs)) _ t;
-      older = older-taken s r hs num j b p (eqb-true _ _ (and-right (isPair s r (hopAt hs j)) _ pair));
+      older = older-taken s r hs num j b p (eqb-true _ _ (and-right (isPair s r (hopAt hs j)) _ front));
     }
+
+pub next-held : (s r : ℕ) (hs : List Hop) → Numbered hs → (j : ℕ) → Next s r hs j
+    → isHeldAt s r (lowestUntaken s r hs) (hopAt hs j) ≡ true
+unfolding isHeldAt
+next-held s r hs num j N =
+    let w : Untaken s r hs j = record { within = N .within; pair = N .pair; waits = held-untaken (hopAt hs j) (N .held) } in
+    and-both (isPair s r (hopAt hs j) && eqb (hopAt hs j .sequence) (lowestUntaken s r hs)) _
+    (and-both (isPair s r (hopAt hs j)) _ (N .pair) (eq-eqb _ _ (first-lowest s r hs num j w (N .older)))) (N .held)
+
+-- the rule finds it
+pub next-found : (s r : ℕ) (hs : List Hop) → Numbered hs → nextHeld s r hs < length hs → Next s r hs (nextHeld s r hs)
+unfolding nextHeld
+next-found s r hs num b =
+    held-next s r hs num (nextHeld s r hs) b (place-found (isHeldAt s r (lowestUntaken s r hs)) hs b)

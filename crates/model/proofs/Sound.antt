@@ -2,14 +2,14 @@
 use mathlib.Core.Path.{_≡_, refl, sym, ap, subst, _∙_}
 use mathlib.Core.Logic.{by-cases}
 use mathlib.Core.Bool.{Bool, true, false, cond}
-use mathlib.Core.List.{List, [], _∷_, _++_, reverse, reverse-cons, append-assoc}
+use mathlib.Core.List.{List, [], _∷_, _++_, reverse, reverse-cons}
 use Prim.Native.Nat.{ℕ, zero, suc, _+_, _-_, _≤_, _<_}
 use native.Mathlib.Nat.{lt-irrefl}
 use native.Mathlib.Decide.{ℕ-discrete}
 use native.Mathlib.Omega.{arith}
 use borrow.Author.Tests.{eq-eqb, eqb-true}
 use lib.ListN.{length, getD, set, replicate, length-set, List·getD-append}
-use lib.Seq.{getD-append-seam, getD-set-same, getD-set-other}
+use lib.Seq.{append-snoc, getD-append-seam, getD-set-same, getD-set-other}
 use lib.Dec.{eqb}
 use Rattle.sets.specs.Sets.{member, size}
 use Rattle.sets.proofs.Bools.{clash, cond-false}
@@ -55,9 +55,6 @@ unfolding routeTotal
 total-snoc P [] x = omega arith
 total-snoc P (y ∷ ms) x = omega (arith, total-snoc P ms x)
 
-pub snoc-assoc : {A : Type 0} (l : List A) (x : A) (r : List A) → (l ++ x ∷ []) ++ r ≡ l ++ x ∷ r
-snoc-assoc l x r = append-assoc l (x ∷ []) r
-
 module _ (P : Plan) (forest : Forest P) (T : List Message) where
   abbrev S : Scheme
   S = schemeOf P (forest .acyclic) T
@@ -71,24 +68,32 @@ module _ (P : Plan) (forest : Forest P) (T : List Message) where
   unitsBelow m u = size (subtree (P .parents) (routeOf P (messageAt T m .group)) u)
 
   -- a hop counts for the units that its copy has yet to reach, and for one when it is taken
-  unfoldable pub worth : Hop → ℕ
-  worth h = cond (isTaken h) 1 (unitsBelow (h .message) (h .receiver))
+  unfoldable pub potential : Hop → ℕ
+  potential h = cond (isTaken h) 1 (unitsBelow (h .message) (h .receiver))
 
-  pub record Sound (ms : List Message) (hs : List Hop) (ls : List (List ℕ)) : Type 0 where
-    pub later : List Message
-    pub table : T ≡ ms ++ later
-    pub history : History
-    pub flow : Flow P (forest .acyclic) T history hs
-    pub mails : mail history ≡ downFrom (length ms)
-    pub numbers : Numbered hs
-    pub rows : length ls ≡ 32
-    pub logs : (u : ℕ) → getD ls u [] ≡ reverse (keep (addressed u) (taken history u))
-    pub worths : sumHops worth hs ≡ routeTotal P ms
+  -- what 12 to 15 leave of the messages
+  pub record Admitted (ms : List Message) : Type 0 where
     pub few : length ms ≤ 200
     pub routes : routeTotal P ms ≤ 2000
     pub sources : (m : ℕ) → 1 ≤ m → m ≤ length ms → messageAt T m .source < P .units
     pub groups : (m : ℕ) → 1 ≤ m → m ≤ length ms → messageAt T m .group < P .count
+
+  -- T is a table that begins with the messages sent so far
+  pub record Sound (ms : List Message) (hs : List Hop) (ls : List (List ℕ)) : Type 0 where
+    pub later : List Message
+    pub table : T ≡ ms ++ later
+    pub admitted : Admitted ms
+    -- there is a history of the messages sent, 1, 2, .. in their order, whose queues are the hops
+    pub history : History
+    pub mails : mail history ≡ downFrom (length ms)
+    pub flow : Flow P (forest .acyclic) T history hs
+    -- a log is what the unit took, of the messages to groups that hold it
+    pub rows : length ls ≡ 32
+    pub logs : (u : ℕ) → getD ls u [] ≡ reverse (keep (addressed u) (taken history u))
+    pub numbers : Numbered hs
     pub states : AllHops (λ h. h .state ≤ 2) hs
+    -- every unit of a message's route took it, or has a copy on the way to it or to a unit above it
+    pub potentials : sumHops potential hs ≡ routeTotal P ms
 
   pub sound-fresh : Sound [] [] (replicate 32 [])
   unfolding mail downFrom Numbered taken keep sumHops routeTotal AllHops
@@ -101,11 +106,13 @@ module _ (P : Plan) (forest : Forest P) (T : List Message) where
     numbers = λ i b. absurd (omega arith);
     rows = refl;
     logs = λ u. empty-row 32 u;
-    worths = refl;
-    few = omega arith;
-    routes = omega arith;
-    sources = λ m a b. absurd (omega arith);
-    groups = λ m a b. absurd (omega arith);
+    potentials = refl;
+    admitted = record {
+      few = omega arith;
+      routes = omega arith;
+      sources = λ m a b. absurd (omega arith);
+      groups = λ m a b. absurd (omega arith);
+    };
     states = λ i b. absurd (omega arith);
   }
     where
@@ -116,13 +123,13 @@ module _ (P : Plan) (forest : Forest P) (T : List Message) where
 
   -- ---- a send
 
-  worth-new : (v c m : ℕ) (hs : List Hop) → worth (newHop v c m hs) ≡ unitsBelow m c
-  unfolding worth isTaken newHop
-  worth-new v c m hs = refl
+  potential-new : (v c m : ℕ) (hs : List Hop) → potential (newHop v c m hs) ≡ unitsBelow m c
+  unfolding potential isTaken newHop
+  potential-new v c m hs = refl
 
-  worth-primary : (m : ℕ) → unitsBelow m (S .primary m) ≡ routeSizeOf P (messageAt T m .group)
+  potential-primary : (m : ℕ) → unitsBelow m (S .primary m) ≡ routeSizeOf P (messageAt T m .group)
   unfolding unitsBelow routeOf primaryOf routeSizeOf routeSize
-  worth-primary m = subtree-primary (P .parents) _
+  potential-primary m = subtree-primary (P .parents) _
 
   module _ (ms : List Message) (hs : List Hop) (ls : List (List ℕ)) (K : Sound ms hs ls) where
     m : ℕ
@@ -142,7 +149,7 @@ module _ (P : Plan) (forest : Forest P) (T : List Message) where
         → Sound (ms ++ x ∷ []) (made (x .source) (primaryOf P (x .group)) (suc (length ms)) hs) ls
     unfolding m mail downFrom taken made newHop
     sound-sent x after e s g few routes =
-        let is-x : messageAt T m ≡ x = ap (λ (l : List Message). messageAt l m) (e ∙ snoc-assoc ms x after) ∙ message-new ms x after in
+        let is-x : messageAt T m ≡ x = ap (λ (l : List Message). messageAt l m) (e ∙ append-snoc ms x after) ∙ message-new ms x after in
         let fresh : In m (mail (K .history)) → ⊥ =
         λ i. let r = in-down (length ms) (subst (λ (l : List ℕ). In m l) (K .mails) i) in lt-irrefl m (omega arith) in
         let on : S .on m (S .primary m) ≡ true = forest .primary-on _ (subst (λ (y : Message). y .group < P .count) (sym is-x) g) in
@@ -157,21 +164,23 @@ module _ (P : Plan) (forest : Forest P) (T : List Message) where
           numbers = numbered-made (x .source) (primaryOf P (x .group)) m hs (K .numbers);
           rows = K .rows;
           logs = K .logs;
-          worths = subst (λ (y : Message). sumHops worth (made-as y) ≡ routeTotal P (ms ++ x ∷ [])) is-x
-              (sum-snoc worth hs (newHop (S .source m) (S .primary m) m hs)
-              ∙ ap (λ (n : ℕ). sumHops worth hs + n) (worth-new (S .source m) (S .primary m) m hs ∙ worth-primary m ∙ size-is)
-              ∙ ap (λ (n : ℕ). n + routeSizeOf P (x .group)) (K .worths) ∙ sym (total-snoc P ms x));
-          few = omega (arith, length-snoc ms x);
-          routes = omega (arith, total-snoc P ms x);
-          sources = with-new x (λ y. y .source < P .units) is-x s (K .sources);
-          groups = with-new x (λ y. y .group < P .count) is-x g (K .groups);
+          potentials = subst (λ (y : Message). sumHops potential (made-as y) ≡ routeTotal P (ms ++ x ∷ [])) is-x
+              (sum-snoc potential hs (newHop (S .source m) (S .primary m) m hs)
+              ∙ ap (λ (n : ℕ). sumHops potential hs + n) (potential-new (S .source m) (S .primary m) m hs ∙ potential-primary m ∙ size-is)
+              ∙ ap (λ (n : ℕ). n + routeSizeOf P (x .group)) (K .potentials) ∙ sym (total-snoc P ms x));
+          admitted = record {
+            few = omega (arith, length-snoc ms x);
+            routes = omega (arith, total-snoc P ms x);
+            sources = with-new x (λ y. y .source < P .units) is-x s (K .admitted .sources);
+            groups = with-new x (λ y. y .group < P .count) is-x g (K .admitted .groups);
+          };
           states = all-snoc (λ h. h .state ≤ 2) hs _ (K .states) (omega arith);
         }
 
     -- ---- holding a copy
 
     pub sound-held : (j : ℕ) → j < length hs → isTaken (hopAt hs j) ≡ false → Sound ms (setState j 1 hs) ls
-    unfolding worth withState isTaken AllHops
+    unfolding potential withState isTaken AllHops
     sound-held j b waits = record {
       later = K .later;
       table = K .table;
@@ -181,21 +190,18 @@ module _ (P : Plan) (forest : Forest P) (T : List Message) where
       numbers = numbered-state j 1 hs (K .numbers);
       rows = K .rows;
       logs = K .logs;
-      worths = (let same : worth (hopAt hs j) ≡ worth (withState 1 (hopAt hs j)) = cond-false (isTaken (hopAt hs j)) 1 _ waits in
-          omega (arith, sum-state worth j 1 hs b)) ∙ K .worths;
-      few = K .few;
-      routes = K .routes;
-      sources = K .sources;
-      groups = K .groups;
+      potentials = (let same : potential (hopAt hs j) ≡ potential (withState 1 (hopAt hs j)) = cond-false (isTaken (hopAt hs j)) 1 _ waits in
+          omega (arith, sum-state potential j 1 hs b)) ∙ K .potentials;
+      admitted = K .admitted;
       states = all-state (λ h. h .state ≤ 2) j 1 hs (λ i c n. K .states i c) (λ c. omega arith);
     }
 
   -- ---- taking a copy
 
-  sum-forward : (v m : ℕ) (cs : List ℕ) (hs : List Hop) → sumHops worth (forward v m cs hs) ≡ sumHops worth hs + total (unitsBelow m) cs
+  sum-forward : (v m : ℕ) (cs : List ℕ) (hs : List Hop) → sumHops potential (forward v m cs hs) ≡ sumHops potential hs + total (unitsBelow m) cs
   unfolding forward made total
   sum-forward v m [] hs = omega arith
-  sum-forward v m (c ∷ cs) hs = omega (arith, sum-forward v m cs (made v c m hs), sum-snoc worth hs (newHop v c m hs), worth-new v c m hs)
+  sum-forward v m (c ∷ cs) hs = omega (arith, sum-forward v m cs (made v c m hs), sum-snoc potential hs (newHop v c m hs), potential-new v c m hs)
 
   module _ (ms : List Message) (hs : List Hop) (ls : List (List ℕ)) (K : Sound ms hs ls) (s r j : ℕ) (N : Next s r hs j) where
     number : ℕ
@@ -242,15 +248,15 @@ module _ (P : Plan) (forest : Forest P) (T : List Message) where
     unfolding unitsBelow routeOf group
     below = subtree-children (P .parents) (forest .acyclic) _ r on-route
 
-    worth-old : worth (hopAt hs j) ≡ unitsBelow number r
-    unfolding worth number
-    worth-old =
+    potential-old : potential (hopAt hs j) ≡ unitsBelow number r
+    unfolding potential number
+    potential-old =
         cond-false (isTaken (hopAt hs j)) 1 _ (held-untaken (hopAt hs j) (N .held))
         ∙ ap (unitsBelow number) (pair-ends s r (hopAt hs j) (N .pair) .1)
 
-    worth-taken : worth (withState 2 (hopAt hs j)) ≡ 1
-    unfolding worth isTaken withState
-    worth-taken = refl
+    potential-taken : potential (withState 2 (hopAt hs j)) ≡ 1
+    unfolding potential isTaken withState
+    potential-taken = refl
 
     pub sound-taken : Sound ms
         (forward r (hopAt hs j .message)
@@ -268,19 +274,16 @@ module _ (P : Plan) (forest : Forest P) (T : List Message) where
       logs = λ u.
           row (member (groupOf P group) r) u (keep (addressed u) (taken (K .history) u)) (K .logs u) (eqb r u) refl
           ∙ ap reverse (kept u (taken (K .history) u) (eqb r u) refl);
-      worths = omega (
+      potentials = omega (
         arith,
         sum-forward r number (childrenOn (P .parents) (routeOf P group) r) (setState j 2 hs),
-        sum-state worth j 2 hs (N .within),
+        sum-state potential j 2 hs (N .within),
         below,
-        worth-old,
-        worth-taken,
-        K .worths,
+        potential-old,
+        potential-taken,
+        K .potentials,
       );
-      few = K .few;
-      routes = K .routes;
-      sources = K .sources;
-      groups = K .groups;
+      admitted = K .admitted;
       states = all-forward (λ h. h .state ≤ 2) r number _ (setState j 2 hs)
           (all-state (λ h. h .state ≤ 2) j 2 hs (λ i c n. K .states i c) (λ c. omega arith)) (λ c i l. omega arith);
     }

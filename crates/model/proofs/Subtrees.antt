@@ -4,19 +4,17 @@ use mathlib.Core.Path.{_≡_, refl, sym, ap, subst, _∙_}
 use mathlib.Core.Logic.{_⊎_, inl, inr, ⊎-elim, by-cases}
 use mathlib.Core.Bool.{Bool, true, _&&_, _||_}
 use mathlib.Core.List.{List, [], _∷_}
-use Prim.Native.Nat.{ℕ, zero, suc, _+_, _*_, _^_, _≤_, _<_}
+use Prim.Native.Nat.{ℕ, zero, suc, _+_, _^_, _≤_, _<_}
 use native.Mathlib.Nat.{lt-of-le-of-lt}
 use native.Mathlib.Omega.{arith}
 use native.Mathlib.Decide.{ℕ-discrete}
 use borrow.Author.Tests.{lt-ltb, eq-eqb, eqb-true}
 use lib.Dec.{ltb, eqb, lit≤}
-use lib.Count.{ones, ones-cat}
 use lib.Pow.{pow-pos}
-use Rattle.sets.specs.Sets.{member, single, union, including, size, collect}
-use Rattle.sets.proofs.Bools.{clash, and-left, and-right, and-both, or-left, or-right, or-cases, same-test, cond-true}
-use Rattle.sets.proofs.Laws.{member-empty, member-union, member-single, member-including, member-collect, collect-below, single-below}
-use Rattle.sets.proofs.Laws.{union-below, including-below, same-members, Subset, size-subset, size-positive, size-empty, size-union}
-use Rattle.sets.proofs.Laws.{size-counts-ones}
+use Rattle.sets.specs.Sets.{member, union, including, size, collect}
+use Rattle.sets.proofs.Bools.{clash, and-left, and-right, and-both, or-left, or-right, or-cases, same-test}
+use Rattle.sets.proofs.Laws.{member-empty, member-union, member-including, member-collect, collect-below, union-below, including-below}
+use Rattle.sets.proofs.Laws.{same-members, Subset, size-subset, size-positive, size-empty, size-union, size-including}
 use Rattle.forest.specs.Forest.{parent, ancestors, above, primary, onRoute, aboveSome, route}
 use Rattle.forest.specs.Claims.{Above, itself, over, Acyclic}
 use Rattle.forest.proofs.Ancestry.{above-unit, above-trans, above-sound, above-complete, fewer-ancestors}
@@ -105,18 +103,6 @@ module _ (f : ℕ → ℕ) where
       let r = gathered-in cs x k in
       n (subst (λ (e : ℕ). In e cs) (sym (apart c (r .0) x (here refl) (there (r .1)) m (r .2))) (r .1)))
       ∙ ap (λ (k : ℕ). size (f c) + k) (size-gathered cs d (λ a b x i j. apart a b x (there i) (there j)))
-
-size-single : (u : ℕ) → u < 32 → size (single u) ≡ 1
-unfolding single ones
-size-single u h = sym (size-counts-ones (single u) (single-below u)) ∙ ap ones (cond-true (ltb u 32) (2 ^ u) 0 (lt-ltb u 32 h))
-    ∙ ap ones (let e : 2 ^ u ≡ 1 * 2 ^ u + 0 = omega arith in e) ∙ ones-cat u 1 0 (pow-pos u)
-
-size-including : (s u : ℕ) → u < 32 → (member s u ≡ true → ⊥) → size (including s u) ≡ suc (size s)
-unfolding including
-size-including s u h n =
-    let e = size-union s (single u) (λ x m i.
-    n (rw (eqb-true u x (and-right (ltb u 32) (eqb u x) (sym (member-single u x) ∙ i))) m)) in
-    omega (arith, size-single u h)
 
 -- ---- above
 

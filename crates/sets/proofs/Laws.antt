@@ -12,7 +12,7 @@ use lib.Dec.{ltb, eqb, lit≤, eqb·zero-suc, eqb·suc-zero, eqb·suc-suc, leb·
 use lib.Arith.{lt-one, lt-of-le-ne}
 use lib.Pow.{pow-pos, pow-mono, pow-lt}
 use lib.Bits.{bitAnd, bitOr, and-step, or-step, and-le-l, and-le-r, or-lt}
-use lib.Count.{onesIn, ones, ones-step, ones-ones, trailingZeros, under}
+use lib.Count.{onesIn, ones, ones-step, ones-ones, ones-cat, trailingZeros, under}
 use Rattle.sets.specs.Sets.{member, single, union, intersection, difference, including, excluding, size, lowest}
 use Rattle.sets.specs.Sets.{includingIf, collect, below}
 use Rattle.sets.proofs.Bools.{either, clash, and-left, and-right, and-both, not-of-false, false-of-not, not-true-false}
@@ -365,6 +365,19 @@ ones-count (suc k) n h = ones-step n ∙ ap (λ (x : ℕ). n % 2 + x) (ones-coun
 pub size-counts-ones : (s : ℕ) → s < 2 ^ 32 → ones s ≡ size s
 unfolding size
 size-counts-ones s h = ones-count 32 s h
+
+size-single : (u : ℕ) → u < 32 → size (single u) ≡ 1
+unfolding single ones
+size-single u h = sym (size-counts-ones (single u) (single-below u)) ∙ ap ones (cond-true (ltb u 32) (2 ^ u) 0 (lt-ltb u 32 h))
+    ∙ ap ones (let e : 2 ^ u ≡ 1 * 2 ^ u + 0 = omega arith in e) ∙ ones-cat u 1 0 (pow-pos u)
+
+-- one member more
+pub size-including : (s u : ℕ) → u < 32 → (member s u ≡ true → ⊥) → size (including s u) ≡ suc (size s)
+unfolding including
+size-including s u h n =
+    let e = size-union s (single u) (λ x m i.
+    n (rw (eqb-true u x (and-right (ltb u 32) (eqb u x) (sym (member-single u x) ∙ i))) m)) in
+    omega (arith, size-single u h)
 
 -- ---- the lowest member
 

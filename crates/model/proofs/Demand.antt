@@ -4,7 +4,7 @@ use mathlib.Core.Logic.{⊎-elim, by-cases}
 use mathlib.Core.Bool.{true, false}
 use mathlib.Core.List.{List, [], _∷_, reverse}
 use Prim.Native.Nat.{ℕ, zero, suc, _+_, _-_, _≤_, _<_, suc-le-suc}
-use native.Mathlib.Nat.{not-suc-le-zero, le-of-suc-le-suc, zero-lt-suc, le-trans, le-of-eq, lt-of-lt-of-le}
+use native.Mathlib.Nat.{not-suc-le-zero, le-of-suc-le-suc, zero-lt-suc, le-trans, le-of-eq, lt-irrefl, lt-of-lt-of-le}
 use native.Mathlib.Decide.{ℕ-discrete}
 use native.Mathlib.Omega.{arith}
 use lib.ListN.{length, getD}
@@ -20,7 +20,7 @@ use Rattle.model.specs.Calls.{Answered}
 use Rattle.model.specs.Demand3.{In, here, there, Before, first, later, Distinct, SentMessage, sent, takenTotal, sentTotal}
 use Rattle.model.specs.Demand3.{BeforeSomewhere, Chain, ends, next, Circle, Demand3}
 use Rattle.model.specs.Claims.{HopWithin, Limits}
-use Rattle.model.proofs.Lists.{in-none, before-in}
+use Rattle.model.proofs.Lists.{in-none, no-elements, before-in}
 use Rattle.model.proofs.Chains.{Walk, stop, go}
 use Rattle.model.proofs.Histories.{Scheme, History, mail, taken, queue, sender}
 use Rattle.model.proofs.Order.{Earlier, sender-first, sender-below, queue-sender, queue-mail, queue-on, taken-mail, taken-distinct}
@@ -165,6 +165,17 @@ module _ (P : Plan) (forest : Forest P) (T ms : List Message) (hs : List Hop) (l
   unfolding H
   no-circles c = no-circle S (K .flow .legal) (somewhere (c .end) (c .start) (c .closes)) (chain-walk (c .chain))
 
+  -- ---- hops
+
+  -- a hop's message was sent, and its receiver is on the message's route
+  own-queue : (j : ℕ) → j < length hs → In (hopAt hs j .message) (queue S H (hopAt hs j .sender) (hopAt hs j .receiver))
+  unfolding H
+  own-queue j b = hop-queue P (forest .acyclic) T (K .flow) _ _ j b (own-pair (hopAt hs j))
+
+  own-route : (j : ℕ) → j < length hs → S .on (hopAt hs j .message) (hopAt hs j .receiver) ≡ true
+  unfolding H
+  own-route j b = queue-on S (K .flow .legal) _ _ (own-queue j b)
+
   -- ---- rest
 
   -- an untaken hop counts for at least its receiver
@@ -172,8 +183,7 @@ module _ (P : Plan) (forest : Forest P) (T ms : List Message) (hs : List Hop) (l
   unfolding AllHops potential unitsBelow routeOf
   potential-some i b =
       let h : Hop = hopAt hs i in
-      let q = hop-queue P (forest .acyclic) T (K .flow) (h .sender) (h .receiver) i b (own-pair h) in
-      let on = queue-on S (K .flow .legal) (h .sender) (h .receiver) q in
+      let on = own-route i b in
       ⊎-elim
       (λ (t : isTaken h ≡ true). le-of-eq (sym (cond-true (isTaken h) 1 _ t)))
       (λ (t : isTaken h ≡ false). le-trans (subtree-positive (P .parents) _ (h .receiver) (route-unit (P .parents) _ (h .receiver) on) on)
@@ -211,24 +221,32 @@ module _ (P : Plan) (forest : Forest P) (T ms : List Message) (hs : List Hop) (l
   unfolding H Numbered AllHops routeOf
   record-within few j b =
       let h : Hop = hopAt hs j in
-      let q = hop-queue P (forest .acyclic) T (K .flow) (h .sender) (h .receiver) j b (own-pair h) in
-      let on = queue-on S (K .flow .legal) (h .sender) (h .receiver) q in
-      let mailed = queue-mail S (K .flow .legal) (h .sender) (h .receiver) q in record {
-        sender = subst (λ (x : ℕ). x < 32) (queue-sender S H (h .sender) (h .receiver) q) (sender-unit (h .message) (h .receiver) mailed on);
-        receiver = route-unit (P .parents) _ (h .receiver) on;
+      let mailed = queue-mail S (K .flow .legal) (h .sender) (h .receiver) (own-queue j b) in record {
+        sender = subst (λ (x : ℕ). x < 32) (queue-sender S H (h .sender) (h .receiver) (own-queue j b))
+            (sender-unit (h .message) (h .receiver) mailed (own-route j b));
+        receiver = route-unit (P .parents) _ (h .receiver) (own-route j b);
         sequence = (omega (arith, K .numbers j b), omega (arith, sequence-limit hs (K .numbers) j b));
         message = numbered (h .message) mailed;
         state = K .states j b;
       }
 
+  -- what is no unit has no log
+  outside : (u m : ℕ) → P .units ≤ u → In m (logOf u (network ms hs ls)) → ⊥
+  unfolding addressed
+  outside u m past i =
+      let n = log-number u m i in
+      lt-irrefl u (lt-of-lt-of-le (forest .members-units _ u (K .admitted .groups m (n .0) (n .1)) (log-in u m i .1)) past)
+
   pub sound-limits : Limits P (network ms hs ls)
   unfolding messagesOf hopsOf
   sound-limits =
-      let hops : length hs ≤ routeTotal P ms = le-trans (sum-least (potential P forest T) hs potential-some) (le-of-eq (K .potentials)) in record {
+      let hops : length hs ≤ routeTotal P ms =
+      le-trans (sum-least (potential P forest T) hs potential-some) (le-of-eq (K .potentials)) in record {
         messages = K .admitted .few;
         hops = hops;
         routes = K .admitted .routes;
         log = λ u. le-trans (distinct-length (length ms) (log-once u) (log-number u)) (K .admitted .few);
+        units = λ u past. no-elements (logOf u (network ms hs ls)) (λ m i. outside u m past i);
         records = record-within (le-trans hops (K .admitted .routes));
       }
 
@@ -236,7 +254,6 @@ module _ (P : Plan) (forest : Forest P) (T ms : List Message) (hs : List Hop) (l
 
   module _ (past : List Answered) (sends : sent past ≡ enumerate 1 ms) (takes : takenTotal past ≡ countHops isTaken hs) where
     listed : (x : SentMessage) → In x (sent past) → Listed 1 ms x
-    unfolding messagesOf
     listed x i = in-enumerate 1 ms x (subst (λ (l : List SentMessage). In x l) sends i)
 
     -- a listed message is the table's
@@ -253,7 +270,7 @@ module _ (P : Plan) (forest : Forest P) (T ms : List Message) (hs : List Hop) (l
 
     in-sent-order : (a b : SentMessage) → Before a b (sent past) → a .source ≡ b .source → a .group ≡ b .group
         → (u : ℕ) → Before (b .number) (a .number) (logOf u (network ms hs ls)) → ⊥
-    unfolding H messagesOf
+    unfolding H
     in-sent-order a b p s g u q =
         let at = before-in p in
         let (a-from, a-to, a-source, a-group) = listed-message a (listed a (at .0)) in
@@ -267,7 +284,7 @@ module _ (P : Plan) (forest : Forest P) (T ms : List Message) (hs : List Hop) (l
 
     log-addressed : (u m : ℕ) → In m (logOf u (network ms hs ls))
         → (x : SentMessage) × In x (sent past) × (x .number ≡ m) × (member (groupOf P (x .group)) u ≡ true)
-    unfolding addressed messagesOf
+    unfolding addressed
     log-addressed u m i =
         let n = log-number u m i in
         let (x, at, e) = enumerate-has 1 ms (m - 1) (let z : m - 1 < length ms = omega arith in z) in
@@ -277,7 +294,6 @@ module _ (P : Plan) (forest : Forest P) (T ms : List Message) (hs : List Hop) (l
         (x, at′, is-m, ap (λ (k : ℕ). member (groupOf P k) u) g ∙ log-in u m i .1)
 
     sent-total : sentTotal P (sent past) ≡ sumHops (potential P forest T) hs
-    unfolding messagesOf
     sent-total = ap (sentTotal P) sends ∙ total-enumerate P 1 ms ∙ sym (K .potentials)
 
     rest-sum : quiescent (network ms hs ls) ≡ true → takenTotal past ≡ sentTotal P (sent past)
@@ -289,7 +305,7 @@ module _ (P : Plan) (forest : Forest P) (T ms : List Message) (hs : List Hop) (l
 
     sum-rest : takenTotal past ≡ sentTotal P (sent past) → quiescent (network ms hs ls) ≡ true
     unfolding quiescent hopsOf
-    sum-rest e = taken-all hs (le-trans (sum-least (potential P forest T) hs potential-some) (le-of-eq (sym (sym (takes) ∙ e ∙ sent-total))))
+    sum-rest e = taken-all hs (le-trans (sum-least (potential P forest T) hs potential-some) (le-of-eq (sym (sym takes ∙ e ∙ sent-total))))
 
     log-complete : quiescent (network ms hs ls) ≡ true → (x : SentMessage) → In x (sent past) → (u : ℕ) → member (groupOf P (x .group)) u ≡ true
         → In (x .number) (logOf u (network ms hs ls))

@@ -13,6 +13,10 @@ module _ {A : Type 0} where
   pub in-none : {x : A} → In x [] → ⊥
   in-none i = elim i [ ]
 
+  pub no-elements : (l : List A) → ((x : A) → In x l → ⊥) → l ≡ []
+  no-elements [] none = refl
+  no-elements (y ∷ l) none = absurd (none y (here refl))
+
   pub in-append-left : {x : A} {l : List A} (r : List A) → In x l → In x (l ++ r)
   in-append-left r (here e) = here e
   in-append-left r (there i) = there (in-append-left r i)

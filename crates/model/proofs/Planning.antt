@@ -14,7 +14,7 @@ use Rattle.forest.specs.Forest.{primary, route}
 use Rattle.forest.specs.Calls.{countedAt, counted, buildRefusal, checkRefusal}
 use Rattle.forest.specs.Claims.{AcceptedForest}
 use Rattle.forest.proofs.Primaries.{parent-on-route}
-use Rattle.forest.proofs.Theorems.{groups-good, check-accepted, build-forest}
+use Rattle.forest.proofs.Theorems.{GoodGroups, groups-good, check-accepted, build-forest}
 use Rattle.model.specs.Network.{Plan, groupOf, primaryOf, routeOf}
 use Rattle.model.specs.Demand3.{Planned, built, checked}
 use Rattle.model.proofs.Sound.{Forest}
@@ -28,21 +28,25 @@ counted-group c gs g few b =
 abbrev AcceptedFor : Plan → List ℕ → Type 0
 AcceptedFor P ps = AcceptedForest (P .units) (P .count) (counted (P .count) (P .groups)) ps
 
-accepted-plan : (P : Plan) → P .count ≤ 24 → AcceptedFor P (P .parents) → Forest P
+accepted-plan : (P : Plan) → GoodGroups (P .units) (P .count) (counted (P .count) (P .groups)) → AcceptedFor P (P .parents) → Forest P
 unfolding groupOf primaryOf routeOf
-accepted-plan P few accepted = record {
+accepted-plan P good accepted = record {
   few = accepted .within .few;
   acyclic = accepted .acyclic;
-  primary-on = λ g b. subst (λ (s : ℕ). member (route (P .parents) s) (primary (P .parents) s) ≡ true) (counted-group _ (P .groups) g few b)
+  members-units = λ g u b m. good .bench .within g u (subst (λ (s : ℕ). member s u ≡ true) (sym (same g b)) m);
+  primary-on = λ g b. subst (λ (s : ℕ). member (route (P .parents) s) (primary (P .parents) s) ≡ true) (same g b)
       (accepted .members g _ b (accepted .primary-of g b .inside));
-  members-on = λ g u b. subst (λ (s : ℕ). member s u ≡ true → member (route (P .parents) s) u ≡ true) (counted-group _ (P .groups) g few b)
+  members-on = λ g u b. subst (λ (s : ℕ). member s u ≡ true → member (route (P .parents) s) u ≡ true) (same g b)
       (accepted .members g u b);
   parent-on = λ g u. parent-on-route (P .parents) (groupOf P g) u;
 }
+  where
+    same : (g : ℕ) → g < P .count → getD (counted (P .count) (P .groups)) g 0 ≡ groupOf P g
+    same g b = counted-group (P .count) (P .groups) g (good .count) b
 
 pub planned-forest : (P : Plan) → Planned P → Forest P
 unfolding buildRefusal checkRefusal
-planned-forest P (built e q) = accepted-plan P (groups-good _ _ _ _ e .0 .count)
+planned-forest P (built e q) = accepted-plan P (groups-good _ _ _ _ e .0)
     (subst (AcceptedFor P) (sym q) (build-forest (P .units) (P .count) (P .groups) e))
-planned-forest P (checked drawing e q) = accepted-plan P (groups-good _ _ _ _ e .0 .count)
+planned-forest P (checked drawing e q) = accepted-plan P (groups-good _ _ _ _ e .0)
     (subst (AcceptedFor P) (sym q) (check-accepted (P .units) (P .count) (P .groups) drawing e))

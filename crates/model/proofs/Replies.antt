@@ -14,7 +14,7 @@ use Rattle.model.specs.Rules.{Answer, Outcome, answerOf, leftOf, refuse,
 use Rattle.model.specs.Rules.{hold, arrive, quiescent}
 use Rattle.model.specs.Calls.{Call, Send, Arrive, call, Log, log, Rest, rest}
 use Rattle.model.specs.Claims.{SendAnswer, no-source, no-group, too-many, too-far, accepted, ArriveAnswer, not-made, repeats, waits}
-use Rattle.model.specs.Claims.{takes, inert}
+use Rattle.model.specs.Claims.{takes, changesNothing}
 
 -- what holds of a refusal and of the rest
 pub refuse-either : {A : Type 0} (Q : A → Type 0) (b : Bool) (x y : A) → (b ≡ true → Q x) → (b ≡ false → Q y) → Q (refuse b x y)
@@ -79,19 +79,19 @@ arrive-answers P j hops book (network ms hs ls) whole-hops whole-book =
 
 -- what leaves everything as it was, if its answer says so
 Keeps : Network → Outcome → Type 0
-Keeps W o = inert (answerOf o) ≡ true → leftOf o ≡ W
+Keeps W o = changesNothing (answerOf o) ≡ true → leftOf o ≡ W
 
 keeps-refused : (W : Network) (b : Bool) (k : ℕ) (o : Outcome) → Keeps W o → Keeps W (refuse b (refused k W) o)
 unfolding Keeps refused leftOf
 keeps-refused W b k o rest = refuse-either (Keeps W) b _ _ (λ t e. refl) (λ t. rest)
 
 keeps-tally : (W : Network) (o : Outcome) (i : ℕ) → answerOf o ≡ tally i → Keeps W o
-unfolding Keeps tally inert
-keeps-tally W o zero e t = absurd (true≢false (sym t ∙ ap inert e))
-keeps-tally W o (suc n) e t = absurd (true≢false (sym t ∙ ap inert e))
+unfolding Keeps tally changesNothing
+keeps-tally W o zero e t = absurd (true≢false (sym t ∙ ap changesNothing e))
+keeps-tally W o (suc n) e t = absurd (true≢false (sym t ∙ ap changesNothing e))
 
 keeps-send : (P : Plan) (s g w : ℕ) (W : Network) → Keeps W (send P s g w W)
-unfolding send Keeps answerOf inert
+unfolding send Keeps answerOf changesNothing
 keeps-send P s g w (network ms hs ls) =
     keeps-refused _ (leb (P .units) s) 12 _ (keeps-refused _ (leb (P .count) g) 13 _ (keeps-refused _ (leb 200 (length ms)) 14 _
     (keeps-refused _ (ltb 2000 (routeTotal P ms + routeSizeOf P g)) 15 _ (λ t. absurd (false≢true t)))))
@@ -108,10 +108,10 @@ keeps-arrive P j (network ms hs ls) =
     (λ (out : isOut (hopAt hs j) ≡ false). simp out (λ t. refl))
     (either (isOut (hopAt hs j))))
 
-pub inert-same : (P : Plan) (c : Call) (W : Network) → inert (answerOf (call P c W)) ≡ true → leftOf (call P c W) ≡ W
+pub unchanged : (P : Plan) (c : Call) (W : Network) → changesNothing (answerOf (call P c W)) ≡ true → leftOf (call P c W) ≡ W
 unfolding Keeps call
-inert-same P (Send s g w hops) W = keeps-refused W (ltb hops 2000) 1 _ (keeps-send P s g w W)
-inert-same P (Arrive j hops book) W = keeps-refused W (ltb hops 2000 || ltb book 6400) 1 _ (keeps-arrive P j W)
+unchanged P (Send s g w hops) W = keeps-refused W (ltb hops 2000) 1 _ (keeps-send P s g w W)
+unchanged P (Arrive j hops book) W = keeps-refused W (ltb hops 2000 || ltb book 6400) 1 _ (keeps-arrive P j W)
 
 -- ---- the calls that only look
 

@@ -33,6 +33,7 @@ use Rattle.model.proofs.Logs.{keep, downFrom, in-down}
 pub record Forest (P : Plan) : Type 0 where
   pub few : P .units ≤ 32
   pub acyclic : Acyclic (P .parents)
+  pub members-units : (g u : ℕ) → g < P .count → member (groupOf P g) u ≡ true → u < P .units
   pub primary-on : (g : ℕ) → g < P .count → member (routeOf P g) (primaryOf P g) ≡ true
   pub members-on : (g u : ℕ) → g < P .count → member (groupOf P g) u ≡ true → member (routeOf P g) u ≡ true
   pub parent-on : (g u : ℕ) → member (routeOf P g) u ≡ true → (u ≡ primaryOf P g → ⊥) → member (routeOf P g) (parent (P .parents) u) ≡ true
@@ -201,7 +202,8 @@ module _ (P : Plan) (forest : Forest P) (T : List Message) where
   sum-forward : (v m : ℕ) (cs : List ℕ) (hs : List Hop) → sumHops potential (forward v m cs hs) ≡ sumHops potential hs + total (unitsBelow m) cs
   unfolding forward made total
   sum-forward v m [] hs = omega arith
-  sum-forward v m (c ∷ cs) hs = omega (arith, sum-forward v m cs (made v c m hs), sum-snoc potential hs (newHop v c m hs), potential-new v c m hs)
+  sum-forward v m (c ∷ cs) hs =
+      omega (arith, sum-forward v m cs (made v c m hs), sum-snoc potential hs (newHop v c m hs), potential-new v c m hs)
 
   module _ (ms : List Message) (hs : List Hop) (ls : List (List ℕ)) (K : Sound ms hs ls) (s r j : ℕ) (N : Next s r hs j) where
     number : ℕ

@@ -28,6 +28,8 @@ pub record Limits (P : Plan) (W : Network) : Type 0 where
   pub hops : length (hopsOf W) ≤ routeTotal P (messagesOf W)
   pub routes : routeTotal P (messagesOf W) ≤ 2000
   pub log : (u : ℕ) → length (logOf u W) ≤ 200
+  -- what is no unit has no log
+  pub units : (u : ℕ) → P .units ≤ u → logOf u W ≡ []
   pub records : (j : ℕ) → j < length (hopsOf W) → HopWithin (messagesOf W) (hopAt (hopsOf W) j)
 
 -- the lowest sequence number from s to r not yet taken is not held
@@ -53,12 +55,12 @@ pub data ArriveAnswer (j : ℕ) (hs : List Hop) : Answer → Type 0 where
   takes : (n : ℕ) → j < length hs → isOut (hopAt hs j) ≡ true → ArriveAnswer j hs (Taken (suc n))
 
 -- the answer says that nothing changed: turned away, or a repeat
-unfoldable pub inert : Answer → Bool
-inert (Refused k) = true
-inert (Sent m) = false
-inert Repeat = true
-inert Held = false
-inert (Taken n) = false
+unfoldable pub changesNothing : Answer → Bool
+changesNothing (Refused k) = true
+changesNothing (Sent m) = false
+changesNothing Repeat = true
+changesNothing Held = false
+changesNothing (Taken n) = false
 
 -- ---- the reading of a list
 

@@ -9,8 +9,9 @@ use Rattle.sets.specs.Sets.{member, single, union, intersection, including, inc
 use Rattle.forest.specs.Forest.{onRoute, parent, ancestorsWithin, ancestors, above, aboveEvery, aboveSome, primary, route, routeSize}
 use Rattle.forest.proofs.Examples.{C, drawing, examples}
 use Rattle.model.specs.declared.Hop.{Hop}
-use Rattle.model.specs.Network.{Plan, groupOf, primaryOf, routeOf, routeSizeOf, Network, network, fresh, messageAt, hopAt, logOf}
-use Rattle.model.specs.Network.{hopsOf, isOut, isHeld, isTaken, withState, setState, isPair, countHops, pairCount, newHop, made}
+use Rattle.model.specs.Network.{sumOf, bit, Plan, groupOf, primaryOf, routeOf, routeSizeOf, Network, network, fresh, messageAt, hopAt}
+use Rattle.model.specs.Network.{logOf, hopsOf, isOut, isHeld, isTaken, withState, setState, isPair, countHops, pairCount, newHop}
+use Rattle.model.specs.Network.{made}
 use Rattle.model.specs.Rules.{Answer, Refused, Sent, Repeat, Held, Taken, refuse, refused, answerOf, routeTotal, send, push, rising}
 use Rattle.model.specs.Rules.{childrenOn, forward, logged, takeHop, lower, lowestUntaken, placeOf, isHeldAt, nextHeld, tally, settle}
 use Rattle.model.specs.Rules.{hold, arrive, allTaken, quiescent}
@@ -105,7 +106,7 @@ pub record Benches : Type 0 where
 pub benches : Benches
 unfolding onesIn trailingZeros member single union intersection including includingIf size lowest collect onRoute parent
     ancestorsWithin ancestors above aboveEvery aboveSome primary route routeSize groupOf primaryOf routeOf routeSizeOf
-    fresh messageAt hopAt logOf hopsOf isOut isHeld isTaken withState setState isPair countHops pairCount newHop made
+    fresh messageAt hopAt logOf hopsOf isOut isHeld isTaken withState setState isPair sumOf bit countHops pairCount newHop made
     refuse refused answerOf routeTotal send push rising childrenOn forward logged takeHop lower lowestUntaken placeOf
     isHeldAt nextHeld tally settle hold arrive allTaken quiescent call recorded step runFrom run networkOf historyOf
     log rest answered-with answers hop

@@ -13,8 +13,8 @@ use Rattle.sets.proofs.Bools.{either, and-left, and-right, cond-true, cond-fals
 use Rattle.forest.specs.Forest.{parent}
 use Rattle.model.specs.declared.Hop.{Hop}
 use Rattle.model.specs.declared.Message.{Message}
-use Rattle.model.specs.Network.{Plan, groupOf, primaryOf, routeOf, routeSizeOf, network, noMessage, messageAt, hopAt, messagesOf}
-use Rattle.model.specs.Network.{hopsOf, logOf, isTaken, countHops}
+use Rattle.model.specs.Network.{sumOf, bit, Plan, groupOf, primaryOf, routeOf, routeSizeOf, network, noMessage, messageAt, hopAt}
+use Rattle.model.specs.Network.{messagesOf, hopsOf, logOf, isTaken, countHops}
 use Rattle.model.specs.Rules.{routeTotal, allTaken, quiescent}
 use Rattle.model.specs.Calls.{Answered}
 use Rattle.model.specs.Demand3.{In, here, there, Before, first, later, Distinct, SentMessage, sent, takenTotal, sentTotal}
@@ -26,7 +26,7 @@ use Rattle.model.proofs.Histories.{Scheme, History, mail, taken, queue,
 use Rattle.model.proofs.Order.{Earlier, sender-first, sender-below, queue-sender, queue-mail, queue-on, taken-mail, taken-distinct}
 use Rattle.model.proofs.Order.{queued-sent, queued-passed, no-circle, sent-order}
 use Rattle.model.proofs.Subtrees.{subtree-positive, route-unit}
-use Rattle.model.proofs.Hops.{AllHops, sumHops, bit, count-sum, count-length}
+use Rattle.model.proofs.Hops.{AllHops, count-length}
 use Rattle.model.proofs.Sequences.{Numbered, pair-ends, own-pair, sequence-limit}
 use Rattle.model.proofs.Flow.{schemeOf, hop-queue, queue-hop}
 use Rattle.model.proofs.Logs.{keep, keep-in, in-keep, keep-before, keep-distinct, in-reverse, reverse-in, before-reverse}
@@ -86,7 +86,7 @@ enumerate-has i (y ∷ ms) (suc k) b =
     let r = enumerate-has (suc i) ms k (le-of-suc-le-suc b) in (r .0, there (r .1), omega (arith, r .2))
 
 total-enumerate : (P : Plan) (i : ℕ) (ms : List Message) → sentTotal P (enumerate i ms) ≡ routeTotal P ms
-unfolding sentTotal enumerate numberedAs routeTotal
+unfolding sentTotal enumerate numberedAs routeTotal sumOf
 total-enumerate P i [] = refl
 total-enumerate P i (x ∷ ms) = ap (λ (n : ℕ). routeSizeOf P (x .group) + n) (total-enumerate P (suc i) ms)
 
@@ -99,21 +99,21 @@ all-taken (h ∷ hs) t zero b = and-left (isTaken h) _ t
 all-taken (h ∷ hs) t (suc i) b = all-taken hs (and-right (isTaken h) _ t) i (le-of-suc-le-suc b)
 
 taken-all : (hs : List Hop) → length hs ≤ countHops isTaken hs → allTaken hs ≡ true
-unfolding allTaken countHops
+unfolding allTaken countHops sumOf bit
 taken-all [] l = refl
 taken-all (h ∷ hs) l = ⊎-elim
-    (λ (t : isTaken h ≡ true). simp t (taken-all hs (le-of-suc-le-suc (simp t at l))))
-    (λ (t : isTaken h ≡ false). absurd (let z : suc (length hs) ≤ countHops isTaken hs = simp t at l in omega (arith, count-length isTaken hs)))
+    (λ (t : isTaken h ≡ true). simp t (taken-all hs (omega (arith, l, ap bit t))))
+    (λ (t : isTaken h ≡ false). absurd (omega (arith, l, ap bit t, count-length isTaken hs)))
     (either (isTaken h))
 
 -- sums over hops that are each at least 1, or each the same
-sum-least : (f : Hop → ℕ) (hs : List Hop) → AllHops (λ h. 1 ≤ f h) hs → length hs ≤ sumHops f hs
-unfolding AllHops sumHops hopAt
+sum-least : (f : Hop → ℕ) (hs : List Hop) → AllHops (λ h. 1 ≤ f h) hs → length hs ≤ sumOf f hs
+unfolding AllHops sumOf hopAt
 sum-least f [] all = omega arith
 sum-least f (h ∷ hs) all = omega (arith, all zero (zero-lt-suc (length hs)), sum-least f hs (λ i b. all (suc i) (suc-le-suc b)))
 
-sum-same : (f g : Hop → ℕ) (hs : List Hop) → AllHops (λ h. f h ≡ g h) hs → sumHops f hs ≡ sumHops g hs
-unfolding AllHops sumHops hopAt
+sum-same : (f g : Hop → ℕ) (hs : List Hop) → AllHops (λ h. f h ≡ g h) hs → sumOf f hs ≡ sumOf g hs
+unfolding AllHops sumOf hopAt
 sum-same f g [] all = refl
 sum-same f g (h ∷ hs) all = omega (arith, all zero (zero-lt-suc (length hs)), sum-same f g hs (λ i b. all (suc i) (suc-le-suc b)))
 
@@ -293,13 +293,13 @@ module _ (P : Plan) (forest : Forest P) (T ms : List Message) (hs : List Hop) (l
         let g : x .group ≡ messageAt T m .group = listed-message x (listed x at′) .3 ∙ ap (λ (k : ℕ). messageAt T k .group) is-m in
         (x, at′, is-m, ap (λ (k : ℕ). member (groupOf P k) u) g ∙ log-in u m i .1)
 
-    sent-total : sentTotal P (sent past) ≡ sumHops (potential P forest T) hs
+    sent-total : sentTotal P (sent past) ≡ sumOf (potential P forest T) hs
     sent-total = ap (sentTotal P) sends ∙ total-enumerate P 1 ms ∙ sym (K .potentials)
 
     rest-sum : quiescent (network ms hs ls) ≡ true → takenTotal past ≡ sentTotal P (sent past)
-    unfolding quiescent hopsOf potential AllHops bit
+    unfolding quiescent hopsOf potential AllHops bit countHops
     rest-sum t =
-        takes ∙ count-sum isTaken hs
+        takes
         ∙ sum-same (λ h. bit (isTaken h)) (potential P forest T) hs (λ i b.
         let done = all-taken hs t i b in ap bit done ∙ sym (cond-true (isTaken (hopAt hs i)) 1 _ done)) ∙ sym sent-total
 

@@ -1,7 +1,7 @@
 -- Laws of hop lists: what making a hop, or giving one another state, does to counts, sums and queues. Assumes nothing.
 use mathlib.Core.Path.{_≡_, refl, sym, ap, subst, _∙_}
 use mathlib.Core.Logic.{⊎-elim, by-cases}
-use mathlib.Core.Bool.{Bool, true, false, cond}
+use mathlib.Core.Bool.{Bool, true, false}
 use mathlib.Core.List.{List, [], _∷_, _++_}
 use Prim.Native.Nat.{ℕ, zero, suc, _+_, _≤_, _<_}
 use native.Mathlib.Nat.{not-suc-le-zero, le-of-suc-le-suc, zero-lt-suc}
@@ -11,7 +11,7 @@ use native.Mathlib.Omega.{arith}
 use lib.ListN.{length, length-append, length-set, List·getD-append}
 use lib.Seq.{getD-append-seam, getD-set-same, getD-set-other}
 use Rattle.model.specs.declared.Hop.{Hop}
-use Rattle.model.specs.Network.{hopAt, withState, setState, isPair, countHops, newHop, made}
+use Rattle.model.specs.Network.{sumOf, bit, hopAt, withState, setState, isPair, countHops, newHop, made}
 use Rattle.model.specs.Rules.{forward, push}
 use Rattle.model.specs.Demand3.{In, here, there, Before, first, later, Distinct}
 use Rattle.model.proofs.Lists.{in-append-left, in-append-right, in-append-cases, before-append-cases, distinct-append-left}
@@ -74,42 +74,26 @@ all-forward Q v m (c ∷ cs) hs all q =
 
 -- ---- sums and counts over the hops
 
-unfoldable pub sumHops : (Hop → ℕ) → List Hop → ℕ
-sumHops f [] = 0
-sumHops f (h ∷ hs) = f h + sumHops f hs
-
--- 1 where a test holds
-unfoldable pub bit : Bool → ℕ
-bit true = 1
-bit false = 0
-
-pub count-sum : (t : Hop → Bool) (hs : List Hop) → countHops t hs ≡ sumHops (λ h. bit (t h)) hs
-unfolding countHops sumHops bit
-count-sum t [] = refl
-count-sum t (h ∷ hs) = counted (t h) (countHops t hs) (sumHops (λ x. bit (t x)) hs) (count-sum t hs)
-  where
-    counted : (b : Bool) (n k : ℕ) → n ≡ k → cond b (suc n) n ≡ bit b + k
-    counted true n k e = omega arith
-    counted false n k e = omega arith
-
-pub sum-snoc : (f : Hop → ℕ) (hs : List Hop) (x : Hop) → sumHops f (hs ++ x ∷ []) ≡ sumHops f hs + f x
-unfolding sumHops
+pub sum-snoc : {A : Type 0} (f : A → ℕ) (l : List A) (x : A) → sumOf f (l ++ x ∷ []) ≡ sumOf f l + f x
+unfolding sumOf
 sum-snoc f [] x = omega arith
-sum-snoc f (h ∷ hs) x = omega (arith, sum-snoc f hs x)
+sum-snoc f (y ∷ l) x = omega (arith, sum-snoc f l x)
 
 pub sum-state : (f : Hop → ℕ) (j k : ℕ) (hs : List Hop) → j < length hs
-    → sumHops f (setState j k hs) + f (hopAt hs j) ≡ sumHops f hs + f (withState k (hopAt hs j))
-unfolding sumHops setState hopAt
+    → sumOf f (setState j k hs) + f (hopAt hs j) ≡ sumOf f hs + f (withState k (hopAt hs j))
+unfolding sumOf setState hopAt
 sum-state f j k [] b = absurd (not-suc-le-zero b)
 sum-state f zero k (h ∷ hs) b = omega arith
 sum-state f (suc j) k (h ∷ hs) b = omega (arith, sum-state f j k hs (le-of-suc-le-suc b))
 
 pub count-snoc : (t : Hop → Bool) (hs : List Hop) (x : Hop) → countHops t (hs ++ x ∷ []) ≡ countHops t hs + bit (t x)
-count-snoc t hs x = omega (arith, count-sum t (hs ++ x ∷ []), count-sum t hs, sum-snoc (λ h. bit (t h)) hs x)
+unfolding countHops
+count-snoc t hs x = sum-snoc (λ h. bit (t h)) hs x
 
 pub count-state : (t : Hop → Bool) (j k : ℕ) (hs : List Hop) → j < length hs
     → countHops t (setState j k hs) + bit (t (hopAt hs j)) ≡ countHops t hs + bit (t (withState k (hopAt hs j)))
-count-state t j k hs b = omega (arith, count-sum t (setState j k hs), count-sum t hs, sum-state (λ h. bit (t h)) j k hs b)
+unfolding countHops
+count-state t j k hs b = sum-state (λ h. bit (t h)) j k hs b
 
 -- hops that fail the test add nothing
 pub count-forward : (t : Hop → Bool) (v m : ℕ) (cs : List ℕ) (hs : List Hop) → ((c : ℕ) (l : List Hop) → t (newHop v c m l) ≡ false)
@@ -121,13 +105,13 @@ count-forward t v m (c ∷ cs) hs none =
     ∙ count-snoc t hs (newHop v c m hs) ∙ ap (λ b. countHops t hs + bit b) (none c hs) ∙ omega arith
 
 pub count-length : (t : Hop → Bool) (hs : List Hop) → countHops t hs ≤ length hs
-unfolding countHops
+unfolding countHops sumOf bit
 count-length t [] = omega arith
-count-length t (h ∷ hs) = counted (t h) (countHops t hs) (length hs) (count-length t hs)
+count-length t (h ∷ hs) = omega (arith, bit-small (t h), count-length t hs)
   where
-    counted : (b : Bool) (n k : ℕ) → n ≤ k → cond b (suc n) n ≤ suc k
-    counted true n k e = omega arith
-    counted false n k e = omega arith
+    bit-small : (b : Bool) → bit b ≤ 1
+    bit-small true = omega arith
+    bit-small false = omega arith
 
 -- ---- queues
 

@@ -2,7 +2,7 @@
 -- Assumes nothing.
 use mathlib.Core.Path.{_≡_, refl, sym, ap, subst, _∙_}
 use mathlib.Core.Logic.{by-cases}
-use mathlib.Core.Bool.{Bool, true, false, _&&_, and-false, cond}
+use mathlib.Core.Bool.{Bool, true, false, _&&_, and-false}
 use mathlib.Core.List.{List, [], _∷_, _++_}
 use Prim.Native.Nat.{ℕ, zero, suc, _≤_, _<_}
 use native.Mathlib.Nat.{not-suc-le-zero, le-of-suc-le-suc}
@@ -12,10 +12,10 @@ use lib.ListN.{length}
 use lib.Dec.{eqb}
 use Rattle.sets.proofs.Bools.{clash, and-both, not-true-false}
 use Rattle.model.specs.declared.Hop.{Hop}
-use Rattle.model.specs.Network.{hopAt, isHeld, isTaken, withState, setState, isPair, countHops, newHop, made}
+use Rattle.model.specs.Network.{sumOf, bit, hopAt, isHeld, isTaken, withState, setState, isPair, countHops, newHop, made}
 use Rattle.model.specs.Rules.{forward, lowestUntaken, isHeldAt}
 use Rattle.model.specs.Claims.{Settled}
-use Rattle.model.proofs.Hops.{length-snoc, hop-old, hop-new, length-state, state-same, state-other, bit, count-state, count-forward}
+use Rattle.model.proofs.Hops.{length-snoc, hop-old, hop-new, length-state, state-same, state-other, count-state, count-forward}
 use Rattle.model.proofs.Sequences.{pair-ends, Numbered, Next, held-next, next-held}
 
 -- nothing of the pair is to be taken
@@ -104,14 +104,10 @@ unfoldable pub holds : ℕ → ℕ → Hop → Bool
 holds s r h = isPair s r h && isHeld h
 
 none-held : (t : Hop → Bool) (hs : List Hop) → countHops t hs ≤ 0 → (j : ℕ) → j < length hs → t (hopAt hs j) ≡ true → ⊥
-unfolding countHops hopAt
+unfolding countHops sumOf hopAt bit
 none-held t [] z j b h = not-suc-le-zero b
-none-held t (x ∷ hs) z zero b h = not-suc-le-zero (rw h at z)
-none-held t (x ∷ hs) z (suc j) b h = none-held t hs (fewer (t x) (countHops t hs) z) j (le-of-suc-le-suc b) h
-  where
-    fewer : (c : Bool) (n : ℕ) → cond c (suc n) n ≤ 0 → n ≤ 0
-    fewer true n e = omega arith
-    fewer false n e = e
+none-held t (x ∷ hs) z zero b h = absurd (omega (arith, z, ap bit h))
+none-held t (x ∷ hs) z (suc j) b h = none-held t hs (omega (arith, z)) j (le-of-suc-le-suc b) h
 
 pub idle-none : (hs : List Hop) (s r : ℕ) → countHops (holds s r) hs ≤ 0 → Idle hs s r
 unfolding Idle holds

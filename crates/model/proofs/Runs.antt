@@ -14,14 +14,14 @@ use Rattle.sets.specs.Sets.{member}
 use Rattle.sets.proofs.Bools.{either}
 use Rattle.model.specs.declared.Hop.{Hop}
 use Rattle.model.specs.declared.Message.{Message}
-use Rattle.model.specs.Network.{Plan, groupOf, primaryOf, routeOf, routeSizeOf, Network, network, fresh, messageAt, hopAt, messagesOf}
-use Rattle.model.specs.Network.{hopsOf, isOut, isTaken, withState, setState, countHops, newHop, made}
+use Rattle.model.specs.Network.{sumOf, bit, Plan, groupOf, primaryOf, routeOf, routeSizeOf, Network, network, fresh, messageAt, hopAt}
+use Rattle.model.specs.Network.{messagesOf, hopsOf, isOut, isTaken, withState, setState, countHops, newHop, made}
 use Rattle.model.specs.Rules.{Answer, Refused, Sent, Repeat, Outcome, outcome, refuse, refused, routeTotal, send, childrenOn, forward}
 use Rattle.model.specs.Rules.{logged, takeHop, nextHeld, lowestUntaken, isHeldAt, tally, settle, hold, arrive}
 use Rattle.model.specs.Calls.{Call, Send, Arrive, call, Answered, answered, Run, ran, recorded, step, runFrom, run, historyOf}
-use Rattle.model.specs.Demand3.{SentMessage, sentAs, sentBy, sent, carried, takenTotal}
+use Rattle.model.specs.Demand3.{SentMessage, sentAs, sentBy, sent, carried, carriedBy, takenTotal}
 use Rattle.model.specs.Claims.{Settled, callOf, counting}
-use Rattle.model.proofs.Hops.{length-state, bit, count-snoc, count-state, count-forward, count-length}
+use Rattle.model.proofs.Hops.{length-state, sum-snoc, count-snoc, count-state, count-forward, count-length}
 use Rattle.model.proofs.Sequences.{pair-ends, own-pair, held-untaken, out-untaken, place-none, Next, next-found}
 use Rattle.model.proofs.Replies.{refuse-either}
 use Rattle.model.proofs.Sound.{Forest, Sound, message-old, sound-fresh, sound-sent, sound-held, sound-taken, taken-number}
@@ -53,9 +53,8 @@ sent-snoc (y ∷ past) x =
     ap (λ (l : List SentMessage). sentBy y ++ l) (sent-snoc past x) ∙ sym (append-assoc (sentBy y) (sent past) (sentBy x))
 
 total-snoc : (past : List Answered) (c : Call) (a : Answer) → takenTotal (past ++ answered c a ∷ []) ≡ takenTotal past + carried a
-unfolding takenTotal
-total-snoc [] c a = omega arith
-total-snoc (answered d b ∷ past) c a = omega (arith, total-snoc past c a)
+unfolding takenTotal carriedBy
+total-snoc past c a = sum-snoc carriedBy past (answered c a)
 
 module _ (P : Plan) (forest : Forest P) where
   -- sound for every table that begins with the messages sent so far
@@ -258,7 +257,7 @@ module _ (P : Plan) (forest : Forest P) where
   kept-from (c ∷ cs) r K = kept-from cs (step P c r) (kept-step c r K)
 
   pub kept-run : (cs : List Call) → KeptRun (run P cs)
-  unfolding run KeptRun fresh Valid sent enumerate messagesOf takenTotal countHops hopsOf Idle
+  unfolding run KeptRun fresh Valid sent enumerate messagesOf takenTotal countHops sumOf hopsOf Idle
   kept-run cs = kept-from cs (ran fresh []) (record {
     valid = λ T after e. sound-fresh P forest T;
     sends = refl;

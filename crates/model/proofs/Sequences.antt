@@ -4,7 +4,7 @@ use mathlib.Core.Path.{_≡_, refl, sym, ap, subst, _∙_}
 use mathlib.Core.Logic.{_⊎_, inl, inr, ⊎-elim, by-cases}
 use mathlib.Core.Bool.{Bool, true, false, not, _&&_, _||_, cond}
 use mathlib.Core.List.{List, [], _∷_, _++_}
-use Prim.Native.Nat.{ℕ, zero, suc, _≤_, _<_}
+use Prim.Native.Nat.{ℕ, zero, suc, _+_, _≤_, _<_}
 use native.Mathlib.Nat.{not-suc-le-zero, le-of-suc-le-suc, zero-lt-suc}
 use native.Mathlib.Decide.{ℕ-discrete, decLt}
 use native.Mathlib.Omega.{arith}
@@ -14,7 +14,8 @@ use lib.Seq.{length-take-le, take-append-le, take-append-seam}
 use lib.Dec.{eqb, ltb}
 use Rattle.sets.proofs.Bools.{either, clash, and-left, and-right, and-both, false-of-not}
 use Rattle.model.specs.declared.Hop.{Hop}
-use Rattle.model.specs.Network.{hopAt, withState, setState, isPair, isTaken, isHeld, isOut, countHops, pairCount, newHop, made}
+use Rattle.model.specs.Network.{sumOf, bit, hopAt, withState, setState, isPair, isTaken, isHeld, isOut, countHops, pairCount, newHop}
+use Rattle.model.specs.Network.{made}
 use Rattle.model.specs.Rules.{forward, lower, lowestUntaken, placeOf, isHeldAt, nextHeld}
 use Rattle.model.proofs.Hops.{length-snoc, hop-old, hop-new, length-state, state-same, state-other, count-length}
 
@@ -41,11 +42,11 @@ numbered-made s r m hs num i b = by-cases (decLt i (length hs))
     x = newHop s r m hs
 
 pair-state : (s r j k i : ℕ) (hs : List Hop) → pairCount s r (take i (setState j k hs)) ≡ pairCount s r (take i hs)
-unfolding pairCount countHops setState hopAt withState isPair
+unfolding pairCount countHops sumOf setState hopAt withState isPair
 pair-state s r j k zero hs = refl
 pair-state s r j k (suc i) [] = refl
 pair-state s r zero k (suc i) (h ∷ hs) = refl
-pair-state s r (suc j) k (suc i) (h ∷ hs) = ap (λ (n : ℕ). cond (isPair s r h) (suc n) n) (pair-state s r j k i hs)
+pair-state s r (suc j) k (suc i) (h ∷ hs) = ap (λ (n : ℕ). bit (isPair s r h) + n) (pair-state s r j k i hs)
 
 pub numbered-state : (j k : ℕ) (hs : List Hop) → Numbered hs → Numbered (setState j k hs)
 unfolding Numbered withState
@@ -70,15 +71,11 @@ numbered-forward v m (c ∷ cs) hs num = numbered-forward v m cs (made v c m hs)
 
 count-take : (t : Hop → Bool) (hs : List Hop) (i j : ℕ) → i < j → j ≤ length hs → t (hopAt hs i) ≡ true
     → countHops t (take i hs) < countHops t (take j hs)
-unfolding countHops hopAt
+unfolding countHops sumOf hopAt bit
 count-take t [] i j l b h = absurd (omega arith)
 count-take t (x ∷ hs) i zero l b h = absurd (not-suc-le-zero l)
-count-take t (x ∷ hs) zero (suc j) l b h = rw h (zero-lt-suc (countHops t (take j hs)))
-count-take t (x ∷ hs) (suc i) (suc j) l b h = more (t x) (count-take t hs i j (le-of-suc-le-suc l) (le-of-suc-le-suc b) h)
-  where
-    more : (c : Bool) {n k : ℕ} → n < k → cond c (suc n) n < cond c (suc k) k
-    more true q = omega arith
-    more false q = q
+count-take t (x ∷ hs) zero (suc j) l b h = omega (arith, ap bit h)
+count-take t (x ∷ hs) (suc i) (suc j) l b h = omega (arith, count-take t hs i j (le-of-suc-le-suc l) (le-of-suc-le-suc b) h)
 
 pub pair-ends : (s r : ℕ) (h : Hop) → isPair s r h ≡ true → (h .sender ≡ s) × (h .receiver ≡ r)
 unfolding isPair

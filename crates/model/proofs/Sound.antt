@@ -17,14 +17,14 @@ use Rattle.forest.specs.Forest.{parent, routeSize}
 use Rattle.forest.specs.Claims.{Acyclic}
 use Rattle.model.specs.declared.Hop.{Hop}
 use Rattle.model.specs.declared.Message.{Message}
-use Rattle.model.specs.Network.{Plan, groupOf, primaryOf, routeOf, routeSizeOf, noMessage, messageAt, hopAt, isTaken, withState}
-use Rattle.model.specs.Network.{setState, newHop, made}
+use Rattle.model.specs.Network.{sumOf, Plan, groupOf, primaryOf, routeOf, routeSizeOf, noMessage, messageAt, hopAt, isTaken}
+use Rattle.model.specs.Network.{withState, setState, newHop, made}
 use Rattle.model.specs.Rules.{push, routeTotal, childrenOn, forward, logged}
 use Rattle.model.specs.Demand3.{In}
 use Rattle.model.proofs.Histories.{Scheme, History, start, sent, took, mail, taken, queue}
 use Rattle.model.proofs.Order.{queue-on, queue-mail}
-use Rattle.model.proofs.Subtrees.{total, subtree, subtree-primary, subtree-children, route-unit}
-use Rattle.model.proofs.Hops.{AllHops, all-snoc, all-state, all-forward, sumHops, sum-snoc, sum-state, length-snoc}
+use Rattle.model.proofs.Subtrees.{subtree, subtree-primary, subtree-children, route-unit}
+use Rattle.model.proofs.Hops.{AllHops, all-snoc, all-state, all-forward, sum-snoc, sum-state, length-snoc}
 use Rattle.model.proofs.Sequences.{held-untaken, Numbered, numbered-made, numbered-state, numbered-forward, Next, pair-ends}
 use Rattle.model.proofs.Flow.{schemeOf, Flow, hop-queue, flow-start, flow-sent, flow-held, flow-taken}
 use Rattle.model.proofs.Logs.{keep, downFrom, in-down}
@@ -53,8 +53,7 @@ message-new ms x rest =
 
 total-snoc : (P : Plan) (ms : List Message) (x : Message) → routeTotal P (ms ++ x ∷ []) ≡ routeTotal P ms + routeSizeOf P (x .group)
 unfolding routeTotal
-total-snoc P [] x = omega arith
-total-snoc P (y ∷ ms) x = omega (arith, total-snoc P ms x)
+total-snoc P ms x = sum-snoc (λ y. routeSizeOf P (y .group)) ms x
 
 module _ (P : Plan) (forest : Forest P) (T : List Message) where
   abbrev S : Scheme
@@ -94,10 +93,10 @@ module _ (P : Plan) (forest : Forest P) (T : List Message) where
     pub numbers : Numbered hs
     pub states : AllHops (λ h. h .state ≤ 2) hs
     -- every unit of a message's route took it, or has a copy on the way to it or to a unit above it
-    pub potentials : sumHops potential hs ≡ routeTotal P ms
+    pub potentials : sumOf potential hs ≡ routeTotal P ms
 
   pub sound-fresh : Sound [] [] (replicate 32 [])
-  unfolding mail downFrom Numbered taken keep sumHops routeTotal AllHops
+  unfolding mail downFrom Numbered taken keep sumOf routeTotal AllHops
   sound-fresh = record {
     later = T;
     table = refl;
@@ -165,9 +164,9 @@ module _ (P : Plan) (forest : Forest P) (T : List Message) where
           numbers = numbered-made (x .source) (primaryOf P (x .group)) m hs (K .numbers);
           rows = K .rows;
           logs = K .logs;
-          potentials = subst (λ (y : Message). sumHops potential (made-as y) ≡ routeTotal P (ms ++ x ∷ [])) is-x
+          potentials = subst (λ (y : Message). sumOf potential (made-as y) ≡ routeTotal P (ms ++ x ∷ [])) is-x
               (sum-snoc potential hs (newHop (S .source m) (S .primary m) m hs)
-              ∙ ap (λ (n : ℕ). sumHops potential hs + n) (potential-new (S .source m) (S .primary m) m hs ∙ potential-primary m ∙ size-is)
+              ∙ ap (λ (n : ℕ). sumOf potential hs + n) (potential-new (S .source m) (S .primary m) m hs ∙ potential-primary m ∙ size-is)
               ∙ ap (λ (n : ℕ). n + routeSizeOf P (x .group)) (K .potentials) ∙ sym (total-snoc P ms x));
           admitted = record {
             few = omega (arith, length-snoc ms x);
@@ -199,8 +198,8 @@ module _ (P : Plan) (forest : Forest P) (T : List Message) where
 
   -- ---- taking a copy
 
-  sum-forward : (v m : ℕ) (cs : List ℕ) (hs : List Hop) → sumHops potential (forward v m cs hs) ≡ sumHops potential hs + total (unitsBelow m) cs
-  unfolding forward made total
+  sum-forward : (v m : ℕ) (cs : List ℕ) (hs : List Hop) → sumOf potential (forward v m cs hs) ≡ sumOf potential hs + sumOf (unitsBelow m) cs
+  unfolding forward made sumOf
   sum-forward v m [] hs = omega arith
   sum-forward v m (c ∷ cs) hs =
       omega (arith, sum-forward v m cs (made v c m hs), sum-snoc potential hs (newHop v c m hs), potential-new v c m hs)
@@ -246,7 +245,7 @@ module _ (P : Plan) (forest : Forest P) (T : List Message) where
     kept u l true q = ap (λ (x : ℕ). push (member (groupOf P group) x) number (keep (addressed u) l)) (eqb-true r u q)
     kept u l false q = refl
 
-    below : unitsBelow number r ≡ suc (total (unitsBelow number) (childrenOn (P .parents) (routeOf P group) r))
+    below : unitsBelow number r ≡ suc (sumOf (unitsBelow number) (childrenOn (P .parents) (routeOf P group) r))
     unfolding unitsBelow routeOf group
     below = subtree-children (P .parents) (forest .acyclic) _ r on-route
 

@@ -19,6 +19,7 @@ use Rattle.forest.specs.Forest.{parent, ancestors, above, primary, onRoute, abo
 use Rattle.forest.specs.Claims.{Above, itself, over, Acyclic}
 use Rattle.forest.proofs.Ancestry.{above-unit, above-trans, above-sound, above-complete, fewer-ancestors}
 use Rattle.forest.proofs.Primaries.{on-route, route-has, parent-below}
+use Rattle.model.specs.Network.{sumOf}
 use Rattle.model.specs.Rules.{rising, childrenOn}
 use Rattle.model.specs.Demand3.{In, here, there, Distinct, empty, adds}
 use Rattle.model.proofs.Lists.{in-push, in-push-front, in-push-cases, distinct-push}
@@ -63,11 +64,6 @@ in-children ps way u c h e m = in-rising 32 0 (λ c. eqb (parent ps c) u && memb
 
 -- ---- sums and unions over a list
 
--- the sum of f over a list
-unfoldable pub total : (ℕ → ℕ) → List ℕ → ℕ
-total f [] = 0
-total f (x ∷ xs) = f x + total f xs
-
 -- the members of the sets of a list's elements
 unfoldable gathered : (ℕ → ℕ) → List ℕ → ℕ
 gathered f [] = 0
@@ -95,8 +91,8 @@ module _ (f : ℕ → ℕ) where
   -- sets without a common member: their sizes add up
   size-gathered : (l : List ℕ) → Distinct l
       → ((c d x : ℕ) → In c l → In d l → member (f c) x ≡ true → member (f d) x ≡ true → c ≡ d)
-      → size (gathered f l) ≡ total (λ c. size (f c)) l
-  unfolding gathered total
+      → size (gathered f l) ≡ sumOf (λ c. size (f c)) l
+  unfolding gathered sumOf
   size-gathered [] d apart = size-empty
   size-gathered (c ∷ cs) (adds n d) apart =
       size-union (f c) (gathered f cs) (λ x m k.
@@ -219,7 +215,7 @@ module _ (ps : List ℕ) (acyclic : Acyclic ps) where
       (above-chain r s)
 
   pub subtree-children : (g u : ℕ) → member (route ps g) u ≡ true
-      → size (subtree ps (route ps g) u) ≡ suc (total (λ c. size (subtree ps (route ps g) c)) (childrenOn ps (route ps g) u))
+      → size (subtree ps (route ps g) u) ≡ suc (sumOf (λ c. size (subtree ps (route ps g) c)) (childrenOn ps (route ps g) u))
   unfolding Acyclic
   subtree-children g u mu =
       ap size same ∙ size-including (gathered part children) u unit outside

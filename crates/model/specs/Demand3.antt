@@ -1,13 +1,13 @@
 -- Demand 3 of document 01, whole: a field for each sentence. Definitions only. That it holds of every list of calls is proved in
 -- proofs/Theorems.antt.
 use mathlib.Core.Path.{_≡_}
-use Prim.Native.Nat.{ℕ, _+_, _≤_}
+use Prim.Native.Nat.{ℕ, _≤_}
 use mathlib.Core.Bool.{true}
 use mathlib.Core.List.{List, [], _∷_, _++_}
 use lib.ListN.{length}
 use Rattle.sets.specs.Sets.{member}
 use Rattle.forest.specs.Calls.{buildRefusal, buildParents, checkRefusal, checkParents}
-use Rattle.model.specs.Network.{Plan, groupOf, routeSizeOf, Network, logOf}
+use Rattle.model.specs.Network.{Plan, groupOf, routeSizeOf, Network, logOf, sumOf}
 use Rattle.model.specs.Rules.{Answer, Refused, Sent, Repeat, Held, Taken, quiescent}
 use Rattle.model.specs.Calls.{Send, Arrive, Answered, answered}
 
@@ -59,7 +59,7 @@ unfoldable pub sent : List Answered → List SentMessage
 sent [] = []
 sent (x ∷ past) = sentBy x ++ sent past
 
--- the number that an answer of taken carries
+-- the number that an answer of taken carries; the number that a call's answer carries
 unfoldable pub carried : Answer → ℕ
 carried (Refused k) = 0
 carried (Sent m) = 0
@@ -67,15 +67,16 @@ carried Repeat = 0
 carried Held = 0
 carried (Taken n) = n
 
+unfoldable pub carriedBy : Answered → ℕ
+carriedBy (answered c a) = carried a
+
 -- the sum of the numbers carried by all answers of taken
 unfoldable pub takenTotal : List Answered → ℕ
-takenTotal [] = 0
-takenTotal (answered c a ∷ past) = carried a + takenTotal past
+takenTotal past = sumOf carriedBy past
 
 -- the sum of the route sizes (document 01: way sizes) of the messages
 unfoldable pub sentTotal : Plan → List SentMessage → ℕ
-sentTotal P [] = 0
-sentTotal P (x ∷ xs) = routeSizeOf P (x .group) + sentTotal P xs
+sentTotal P xs = sumOf (λ x. routeSizeOf P (x .group)) xs
 
 -- ---- demand 3
 

@@ -1,6 +1,6 @@
 -- The state of a bench (document 01, "The bench, message by message"): messages, hops and logs. Definitions only.
-use Prim.Native.Nat.{ℕ, suc, _-_}
-use mathlib.Core.Bool.{Bool, _&&_, cond}
+use Prim.Native.Nat.{ℕ, suc, _+_, _-_}
+use mathlib.Core.Bool.{Bool, true, false, _&&_}
 use mathlib.Core.List.{List, [], _∷_, _++_}
 use lib.ListN.{getD, set, replicate}
 use lib.Dec.{eqb}
@@ -88,10 +88,19 @@ setState j k hs = set hs j (withState k (hopAt hs j))
 unfoldable pub isPair : ℕ → ℕ → Hop → Bool
 isPair s r h = eqb (h .sender) s && eqb (h .receiver) r
 
+-- the sum of f over a list
+unfoldable pub sumOf : {A : Type 0} → (A → ℕ) → List A → ℕ
+sumOf f [] = 0
+sumOf f (x ∷ xs) = f x + sumOf f xs
+
+-- 1 where a test holds, else 0
+unfoldable pub bit : Bool → ℕ
+bit true = 1
+bit false = 0
+
 -- how many hops pass a test
 unfoldable pub countHops : (Hop → Bool) → List Hop → ℕ
-countHops test [] = 0
-countHops test (h ∷ hs) = let rest = countHops test hs in cond (test h) (suc rest) rest
+countHops test hs = sumOf (λ h. bit (test h)) hs
 
 -- how many hops were made from s to r; s and r may be one unit
 unfoldable pub pairCount : ℕ → ℕ → List Hop → ℕ

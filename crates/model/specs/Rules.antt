@@ -9,7 +9,7 @@ use Rattle.forest.specs.Forest.{parent}
 use Rattle.model.specs.declared.Hop.{Hop}
 use Rattle.model.specs.declared.Message.{Message}
 use Rattle.model.specs.Network.{Plan, groupOf, primaryOf, routeOf, routeSizeOf, Network, network, messageAt, hopAt, hopsOf, isOut}
-use Rattle.model.specs.Network.{isHeld, isTaken, setState, isPair, made}
+use Rattle.model.specs.Network.{isHeld, isTaken, setState, sumOf, isPair, made}
 
 -- ---- answers
 
@@ -46,8 +46,7 @@ leftOf (outcome a W) = W
 
 -- the route sizes of all messages sent
 unfoldable pub routeTotal : Plan → List Message → ℕ
-routeTotal P [] = 0
-routeTotal P (x ∷ xs) = routeSizeOf P (x .group) + routeTotal P xs
+routeTotal P ms = sumOf (λ x. routeSizeOf P (x .group)) ms
 
 -- a send is recorded and makes one hop, out, from the source to the group's primary; no log changes
 unfoldable pub send : Plan → (source group word : ℕ) → Network → Outcome

@@ -9,15 +9,16 @@ use Rattle.sets.specs.Sets.{member, single, union, intersection, including, inc
 use Rattle.forest.specs.Forest.{onRoute, parent, ancestorsWithin, ancestors, above, aboveEvery, aboveSome, primary, route, routeSize}
 use Rattle.forest.proofs.Examples.{C, drawing, examples}
 use Rattle.model.specs.declared.Hop.{Hop}
-use Rattle.model.specs.Network.{sumOf, bit, Plan, groupOf, primaryOf, routeOf, routeSizeOf, Network, network, fresh, messageAt, hopAt}
-use Rattle.model.specs.Network.{logOf, hopsOf, isOut, isHeld, isTaken, withState, setState, isPair, countHops, pairCount, newHop}
-use Rattle.model.specs.Network.{made}
+use Rattle.model.specs.declared.Message.{Message}
+use Rattle.model.specs.Network.{messagesOf, sumOf, bit, Plan, groupOf, primaryOf, routeOf, routeSizeOf, Network, network, fresh}
+use Rattle.model.specs.Network.{messageAt, hopAt, logOf, hopsOf, isOut, isHeld, isTaken, withState, setState, isPair, countHops}
+use Rattle.model.specs.Network.{pairCount, newHop, made}
 use Rattle.model.specs.Rules.{Answer, Refused, Sent, Repeat, Held, Taken, refuse, refused, answerOf, routeTotal, send, push, rising}
 use Rattle.model.specs.Rules.{childrenOn, forward, logged, takeHop, lower, lowestUntaken, placeOf, isHeldAt, nextHeld, tally, settle}
 use Rattle.model.specs.Rules.{hold, arrive, allTaken, quiescent}
 use Rattle.model.specs.Calls.{Call, Send, Arrive, call, Answered, answered, recorded, step, runFrom, run, networkOf, historyOf}
 use Rattle.model.specs.Calls.{LogRefused, Log, log, RestRefused, Rest, rest}
-use Rattle.model.specs.Demand3.{Planned, checked}
+use Rattle.model.specs.Demand3.{Planned, built, checked}
 
 -- one unit, group {0}
 abbrev pub single-unit : Plan
@@ -39,9 +40,12 @@ star = record { units = 32; count = 2; groups = 4294967295 ∷ 131071 ∷ []; pa
 abbrev pub after-sends : ℕ → ℕ → Network
 after-sends n g = network (replicate n (record { source = 0; group = g; word = 0 })) [] []
 
--- `check` accepts bench C, so that the premise of the theorems is met
+-- the premise of the theorems is met: by a check, and by a build
 pub C-planned : Planned bench-C
 C-planned = checked drawing (examples .p4 .unrefused) (sym (examples .p4 .right))
+
+pub P1-planned : Planned three-children
+P1-planned = built (examples .p1 .unrefused) (sym (examples .p1 .right))
 
 -- calls lent whole lists, and their answers
 abbrev pub sends : ℕ → ℕ → ℕ → Call
@@ -59,6 +63,9 @@ answers P cs = map answered-with (historyOf (run P cs))
 unfoldable pub hop : (sender receiver sequence message state : ℕ) → Hop
 hop s r q m k = record { sender = s; receiver = r; sequence = q; message = m; state = k }
 
+unfoldable pub message : (source group word : ℕ) → Message
+message s g w = record { source = s; group = g; word = w }
+
 abbrev pub seven : List Call
 seven = sends 0 0 7 ∷ arrives 0 ∷ arrives 0 ∷ []
 
@@ -74,6 +81,8 @@ pub record Benches : Type 0 where
   pub p7-hops : hopsOf (networkOf (run single-unit seven)) ≡ hop 0 0 1 1 2 ∷ []
   -- hop 4 is held; hop 3 takes two
   pub p8-answers : answers bench-C eight ≡ Sent 1 ∷ Sent 2 ∷ Taken 1 ∷ Taken 1 ∷ Taken 1 ∷ Held ∷ Taken 2 ∷ []
+  -- the messages are recorded with their words
+  pub p8-messages : messagesOf (networkOf (run bench-C eight)) ≡ message 3 0 500 ∷ message 1 2 600 ∷ []
   pub p8-hops : hopsOf (networkOf (run bench-C eight)) ≡ hop 3 0 1 1 2 ∷ hop 1 2 1 2 2 ∷ hop 0 2 1 1 2 ∷ hop 2 3 1 2 2 ∷ hop 2 3 2 1 2 ∷ []
   pub p8-log-0 : log bench-C 0 6400 (networkOf (run bench-C eight)) ≡ Log (1 ∷ [])
   pub p8-log-1 : log bench-C 1 6400 (networkOf (run bench-C eight)) ≡ Log []
@@ -109,11 +118,12 @@ unfolding onesIn trailingZeros member single union intersection including includ
     fresh messageAt hopAt logOf hopsOf isOut isHeld isTaken withState setState isPair sumOf bit countHops pairCount newHop made
     refuse refused answerOf routeTotal send push rising childrenOn forward logged takeHop lower lowestUntaken placeOf
     isHeldAt nextHeld tally settle hold arrive allTaken quiescent call recorded step runFrom run networkOf historyOf
-    log rest answered-with answers hop
+    log rest answered-with answers hop message messagesOf
 benches = record {
   p7-answers = refl;
   p7-hops = refl;
   p8-answers = refl;
+  p8-messages = refl;
   p8-hops = refl;
   p8-log-0 = refl;
   p8-log-1 = refl;

@@ -72,13 +72,13 @@ module _ {A : Type 0} where
   before-push-cases true y l (later p) = inr p
   before-push-cases false y l p = inr p
 
-  -- ---- no repeats
-
   pub before-append-cases : {a b : A} (l r : List A) → Before a b (l ++ r) → Before a b l ⊎ ((In a l × In b r) ⊎ Before a b r)
   before-append-cases [] r p = inr (inr p)
   before-append-cases (y ∷ l) r (first e i) = ⊎-elim (λ j. inl (first e j)) (λ j. inr (inl (here e, j))) (in-append-cases l r i)
   before-append-cases (y ∷ l) r (later p) =
       ⊎-elim (λ q. inl (later q)) (λ q. inr (⊎-elim (λ t. inl (there (t .0), t .1)) inr q)) (before-append-cases l r p)
+
+  -- ---- no repeats
 
   pub distinct-push : (c : Bool) (y : A) {l : List A} → (c ≡ true → In y l → ⊥) → Distinct l → Distinct (push c y l)
   unfolding push

@@ -17,10 +17,10 @@ use Rattle.model.specs.declared.Message.{Message}
 use Rattle.model.specs.Network.{sumOf, bit, Plan, groupOf, primaryOf, routeOf, routeSizeOf, Network, network, fresh, messageAt, hopAt}
 use Rattle.model.specs.Network.{messagesOf, hopsOf, isOut, isTaken, withState, setState, countHops, newHop, made}
 use Rattle.model.specs.Rules.{Answer, Refused, Sent, Repeat, Outcome, outcome, refuse, refused, routeTotal, send, childrenOn, forward}
-use Rattle.model.specs.Rules.{logged, takeHop, nextHeld, lowestUntaken, isHeldAt, tally, settle, hold, arrive}
+use Rattle.model.specs.Rules.{push, rising, logged, takeHop, nextHeld, lowestUntaken, isHeldAt, tally, settle, hold, arrive}
 use Rattle.model.specs.Calls.{Call, Send, Arrive, call, Answered, answered, Run, ran, recorded, step, runFrom, run, historyOf}
 use Rattle.model.specs.Demand3.{SentMessage, sentAs, sentBy, sent, carried, carriedBy, takenTotal}
-use Rattle.model.specs.Claims.{Settled, callOf, counting}
+use Rattle.model.specs.Claims.{Settled, callOf}
 use Rattle.model.proofs.Hops.{length-state, sum-snoc, count-snoc, count-state, count-forward, count-length}
 use Rattle.model.proofs.Sequences.{pair-ends, own-pair, held-untaken, out-untaken, place-none, Next, next-found}
 use Rattle.model.proofs.Replies.{refuse-either}
@@ -285,7 +285,7 @@ pub run-calls : (P : Plan) (cs : List Call) → map callOf (historyOf (run P cs)
 unfolding run historyOf
 run-calls P cs = calls-from P cs (ran fresh [])
 
-pub enumerate-numbers : (i : ℕ) (ms : List Message) → map (λ x. x .number) (enumerate i ms) ≡ counting i (length (enumerate i ms))
-unfolding enumerate numberedAs counting
+pub enumerate-numbers : (i : ℕ) (ms : List Message) → map (λ x. x .number) (enumerate i ms) ≡ rising (length (enumerate i ms)) i (λ n. true)
+unfolding enumerate numberedAs rising push
 enumerate-numbers i [] = refl
 enumerate-numbers i (x ∷ ms) = ap (λ (l : List ℕ). i ∷ l) (enumerate-numbers (suc i) ms)

@@ -62,7 +62,7 @@ unfolding childrenOn
 in-children ps way u c h e m = in-rising 32 0 (λ c. eqb (parent ps c) u && member way c) c (omega arith) (omega arith)
     (and-both (eqb (parent ps c) u) (member way c) (eq-eqb (parent ps c) u e) m)
 
--- ---- sums and unions over a list
+-- ---- unions over a list
 
 -- the members of the sets of a list's elements
 unfoldable gathered : (ℕ → ℕ) → List ℕ → ℕ

@@ -1,15 +1,17 @@
 -- Demand 3 and what goes with it, for every plan whose forest comes from an unrefused `build` or `check`, and every list of calls.
 -- docs/PROOFS.md leads here. Assumes nothing.
 use mathlib.Core.Path.{_≡_, sym}
+use mathlib.Core.Bool.{true}
 use mathlib.Core.List.{List, [], append-nil, map}
 use Prim.Native.Nat.{ℕ}
 use lib.ListN.{length}
 use Rattle.model.specs.Network.{Plan, Network, network, messagesOf, hopsOf}
 use Rattle.model.specs.declared.Hop.{Hop}
 use Rattle.model.specs.declared.Message.{Message}
+use Rattle.model.specs.Rules.{rising}
 use Rattle.model.specs.Calls.{Call, Run, ran, run, networkOf, historyOf}
 use Rattle.model.specs.Demand3.{Planned, sent, Demand3}
-use Rattle.model.specs.Claims.{Limits, Settled, counting, Reading}
+use Rattle.model.specs.Claims.{Limits, Settled, Reading}
 use Rattle.model.proofs.Planning.{planned-forest}
 use Rattle.model.proofs.Sound.{Forest, Sound}
 use Rattle.model.proofs.Idle.{idle-settled}
@@ -31,7 +33,7 @@ module _ (P : Plan) (forest : Forest P) where
   run-demand (ran (network ms hs ls) past) kept =
       sound-demand P forest ms ms hs ls (own-table ms hs ls (kept .valid)) past (kept .sends) (kept .takes)
 
-  run-numbers : (r : Run) → KeptRun P forest r → map (λ x. x .number) (sent (historyOf r)) ≡ counting 1 (length (sent (historyOf r)))
+  run-numbers : (r : Run) → KeptRun P forest r → map (λ x. x .number) (sent (historyOf r)) ≡ rising (length (sent (historyOf r))) 1 (λ n. true)
   unfolding KeptRun historyOf
   run-numbers (ran W past) kept = rw (kept .sends) (enumerate-numbers 1 (messagesOf W))
 

@@ -1,14 +1,14 @@
 -- What else is claimed of every list of calls: limits, what a call answers, that no copy is left to be taken. Definitions only.
 -- The proofs are in proofs/Theorems.antt and proofs/Replies.antt.
 use mathlib.Core.Path.{_≡_}
-use Prim.Native.Nat.{ℕ, zero, suc, _+_, _≤_, _<_}
+use Prim.Native.Nat.{ℕ, suc, _+_, _≤_, _<_}
 use mathlib.Core.Bool.{Bool, true, false}
-use mathlib.Core.List.{List, [], _∷_, map}
+use mathlib.Core.List.{List, [], map}
 use lib.ListN.{length}
 use Rattle.model.specs.declared.Hop.{Hop}
 use Rattle.model.specs.declared.Message.{Message}
 use Rattle.model.specs.Network.{Plan, routeSizeOf, Network, hopAt, messagesOf, hopsOf, logOf, isOut}
-use Rattle.model.specs.Rules.{Answer, Refused, Sent, Repeat, Held, Taken, routeTotal, lowestUntaken, isHeldAt}
+use Rattle.model.specs.Rules.{Answer, Refused, Sent, Repeat, Held, Taken, routeTotal, rising, lowestUntaken, isHeldAt}
 use Rattle.model.specs.Calls.{Call, Answered, answered}
 use Rattle.model.specs.Demand3.{sent}
 
@@ -67,12 +67,7 @@ changesNothing (Taken n) = false
 unfoldable pub callOf : Answered → Call
 callOf (answered c a) = c
 
--- i, i + 1, .., n of them
-unfoldable pub counting : ℕ → ℕ → List ℕ
-counting i zero = []
-counting i (suc n) = i ∷ counting (suc i) n
-
 -- the calls are those of the list, each with its answer, and the messages sent are numbered 1, 2, .. in their order
 pub record Reading (cs : List Call) (past : List Answered) : Type 0 where
   pub calls : map callOf past ≡ cs
-  pub numbers : map (λ x. x .number) (sent past) ≡ counting 1 (length (sent past))
+  pub numbers : map (λ x. x .number) (sent past) ≡ rising (length (sent past)) 1 (λ i. true)

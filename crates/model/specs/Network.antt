@@ -75,7 +75,7 @@ isHeld h = eqb (h .state) 1
 unfoldable pub isTaken : Hop → Bool
 isTaken h = eqb (h .state) 2
 
--- hop j with another state
+-- a hop, and hop j of a list, with another state
 unfoldable pub withState : ℕ → Hop → Hop
 withState k h = record { sender = h .sender; receiver = h .receiver; sequence = h .sequence; message = h .message; state = k }
 

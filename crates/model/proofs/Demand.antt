@@ -124,6 +124,9 @@ module _ (P : Plan) (forest : Forest P) (T ms : List Message) (hs : List Hop) (l
   H : History
   H = K .history
 
+  abbrev logs : ℕ → List ℕ
+  logs u = logOf u (network ms hs ls)
+
   numbered : (m : ℕ) → In m (mail H) → (1 ≤ m) × (m ≤ length ms)
   unfolding H
   numbered m i = in-down (length ms) (subst (λ (l : List ℕ). In m l) (K .mails) i)
@@ -153,15 +156,15 @@ module _ (P : Plan) (forest : Forest P) (T ms : List Message) (hs : List Hop) (l
 
   -- ---- order
 
-  somewhere : (a b : ℕ) → BeforeSomewhere (network ms hs ls) a b → Earlier H a b
+  somewhere : (a b : ℕ) → BeforeSomewhere logs a b → Earlier H a b
   unfolding BeforeSomewhere
   somewhere a b p = (p .0, log-before (p .0) a b (p .1))
 
-  chain-walk : {a z : ℕ} {l : List ℕ} → Chain (network ms hs ls) a z l → Walk (Earlier H) a z
+  chain-walk : {a z : ℕ} {l : List ℕ} → Chain logs a z l → Walk (Earlier H) a z
   chain-walk ends = stop refl
   chain-walk (next {a} {b} p c) = go (somewhere a b p) (chain-walk c)
 
-  no-circles : Circle (network ms hs ls) → ⊥
+  no-circles : Circle logs → ⊥
   unfolding H
   no-circles c = no-circle S (K .flow .legal) (somewhere (c .end) (c .start) (c .closes)) (chain-walk (c .chain))
 
@@ -319,7 +322,7 @@ module _ (P : Plan) (forest : Forest P) (T ms : List Message) (hs : List Hop) (l
         subst (λ (l : List ℕ). In (x .number) l) (sym (log-is u)) (reverse-in (in-keep (addressed P forest T u)
         (route-taken t (x .number) mailed (suc (S .depth u)) u (let z : S .depth u < suc (S .depth u) = omega arith in z) on) inside))
 
-    pub sound-demand : Demand3 P (network ms hs ls) past
+    pub sound-demand : Demand3 P logs (quiescent (network ms hs ls)) past
     sound-demand = record {
       no-circle = no-circles;
       sent-order = in-sent-order;

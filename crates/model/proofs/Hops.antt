@@ -86,6 +86,14 @@ sum-state f j k [] b = absurd (not-suc-le-zero b)
 sum-state f zero k (h ∷ hs) b = omega arith
 sum-state f (suc j) k (h ∷ hs) b = omega (arith, sum-state f j k hs (le-of-suc-le-suc b))
 
+-- the hops made for the units cs add what f says of each
+pub sum-forward : (f : Hop → ℕ) (g : ℕ → ℕ) (v m : ℕ) (cs : List ℕ) (hs : List Hop) → ((c : ℕ) (l : List Hop) → f (newHop v c m l) ≡ g c)
+    → sumOf f (forward v m cs hs) ≡ sumOf f hs + sumOf g cs
+unfolding forward made sumOf
+sum-forward f g v m [] hs new = omega arith
+sum-forward f g v m (c ∷ cs) hs new =
+    omega (arith, sum-forward f g v m cs (made v c m hs) new, sum-snoc f hs (newHop v c m hs), new c hs)
+
 pub count-snoc : (t : Hop → Bool) (hs : List Hop) (x : Hop) → countHops t (hs ++ x ∷ []) ≡ countHops t hs + bit (t x)
 unfolding countHops
 count-snoc t hs x = sum-snoc (λ h. bit (t h)) hs x

@@ -34,7 +34,7 @@ settled-idle hs s r num settled j N = clash (next-held s r hs num j N) (settled 
 -- ---- what keeps a pair idle
 
 -- the next hop to be taken is so too in a list with the same hops of the pair up to it
-next-along : (s r : ℕ) (hs ks : List Hop) (j : ℕ) → Next s r ks j → j < length hs → hopAt ks j ≡ hopAt hs j
+pub next-along : (s r : ℕ) (hs ks : List Hop) (j : ℕ) → Next s r ks j → j < length hs → hopAt ks j ≡ hopAt hs j
     → ((i : ℕ) → i < j → isPair s r (hopAt hs i) ≡ true → hopAt ks i ≡ hopAt hs i) → Next s r hs j
 next-along s r hs ks j N b e same = record {
   within = b;

@@ -15,3 +15,4 @@ pub mod Planning
 pub mod Demand
 pub mod Replies
 pub mod Theorems
+pub mod Progress

@@ -32,6 +32,7 @@ accepted-plan : (P : Plan) → GoodGroups (P .units) (P .count) (counted (P .cou
 unfolding groupOf primaryOf routeOf
 accepted-plan P good accepted = record {
   few = accepted .within .few;
+  few-groups = good .count;
   acyclic = accepted .acyclic;
   members-units = λ g u b m. good .bench .within g u (subst (λ (s : ℕ). member s u ≡ true) (sym (same g b)) m);
   primary-on = λ g b. subst (λ (s : ℕ). member (route (P .parents) s) (primary (P .parents) s) ≡ true) (same g b)

@@ -80,7 +80,7 @@ module _ (P : Plan) (forest : Forest P) where
           (forward u (hopAt hs j .message) (childrenOn (P .parents) (routeOf P (x .group)) u) (setState j 2 hs))
           (logged (member (groupOf P (x .group)) u) u (hopAt hs j .message) ls)
 
-  take-count : (ms : List Message) (hs : List Hop) (ls : List (List ℕ)) (s r j : ℕ) → Next s r hs j
+  pub take-count : (ms : List Message) (hs : List Hop) (ls : List (List ℕ)) (s r j : ℕ) → Next s r hs j
       → countHops isTaken (hopsOf (takeHop P j (network ms hs ls))) ≡ suc (countHops isTaken hs)
   unfolding takeHop hopsOf isTaken newHop withState bit
   take-count ms hs ls s r j N =
@@ -244,7 +244,7 @@ module _ (P : Plan) (forest : Forest P) where
   unfoldable pub KeptRun : Run → Type 0
   KeptRun (ran W past) = Kept past W
 
-  kept-step : (c : Call) (r : Run) → KeptRun r → KeptRun (step P c r)
+  pub kept-step : (c : Call) (r : Run) → KeptRun r → KeptRun (step P c r)
   unfolding step KeptRun recorded KeptBy
   kept-step c (ran W past) K = record-kept (call P c W) (kept-call past W c K)
     where

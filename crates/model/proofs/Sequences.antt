@@ -41,7 +41,7 @@ numbered-made s r m hs num i b = by-cases (decLt i (length hs))
     x : Hop
     x = newHop s r m hs
 
-pair-state : (s r j k i : ℕ) (hs : List Hop) → pairCount s r (take i (setState j k hs)) ≡ pairCount s r (take i hs)
+pub pair-state : (s r j k i : ℕ) (hs : List Hop) → pairCount s r (take i (setState j k hs)) ≡ pairCount s r (take i hs)
 unfolding pairCount countHops sumOf setState hopAt withState isPair
 pair-state s r j k zero hs = refl
 pair-state s r j k (suc i) [] = refl

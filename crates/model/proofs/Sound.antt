@@ -24,7 +24,7 @@ use Rattle.model.specs.Demand3.{In}
 use Rattle.model.proofs.Histories.{Scheme, History, start, sent, took, mail, taken, queue}
 use Rattle.model.proofs.Order.{queue-on, queue-mail}
 use Rattle.model.proofs.Subtrees.{subtree, subtree-primary, subtree-children, route-unit}
-use Rattle.model.proofs.Hops.{AllHops, all-snoc, all-state, all-forward, sum-snoc, sum-state, length-snoc}
+use Rattle.model.proofs.Hops.{AllHops, all-snoc, all-state, all-forward, sum-snoc, sum-state, sum-forward, length-snoc}
 use Rattle.model.proofs.Sequences.{held-untaken, Numbered, numbered-made, numbered-state, numbered-forward, Next, pair-ends}
 use Rattle.model.proofs.Flow.{schemeOf, Flow, hop-queue, flow-start, flow-sent, flow-held, flow-taken}
 use Rattle.model.proofs.Logs.{keep, downFrom, in-down}
@@ -32,6 +32,7 @@ use Rattle.model.proofs.Logs.{keep, downFrom, in-down}
 -- what a plan's forest has
 pub record Forest (P : Plan) : Type 0 where
   pub few : P .units ≤ 32
+  pub few-groups : P .count ≤ 24
   pub acyclic : Acyclic (P .parents)
   pub members-units : (g u : ℕ) → g < P .count → member (groupOf P g) u ≡ true → u < P .units
   pub primary-on : (g : ℕ) → g < P .count → member (routeOf P g) (primaryOf P g) ≡ true
@@ -198,12 +199,6 @@ module _ (P : Plan) (forest : Forest P) (T : List Message) where
 
   -- ---- taking a copy
 
-  sum-forward : (v m : ℕ) (cs : List ℕ) (hs : List Hop) → sumOf potential (forward v m cs hs) ≡ sumOf potential hs + sumOf (unitsBelow m) cs
-  unfolding forward made sumOf
-  sum-forward v m [] hs = omega arith
-  sum-forward v m (c ∷ cs) hs =
-      omega (arith, sum-forward v m cs (made v c m hs), sum-snoc potential hs (newHop v c m hs), potential-new v c m hs)
-
   module _ (ms : List Message) (hs : List Hop) (ls : List (List ℕ)) (K : Sound ms hs ls) (s r j : ℕ) (N : Next s r hs j) where
     number : ℕ
     number = hopAt hs j .message
@@ -277,7 +272,8 @@ module _ (P : Plan) (forest : Forest P) (T : List Message) where
           ∙ ap reverse (kept u (taken (K .history) u) (eqb r u) refl);
       potentials = omega (
         arith,
-        sum-forward r number (childrenOn (P .parents) (routeOf P group) r) (setState j 2 hs),
+        sum-forward potential (unitsBelow number) r number (childrenOn (P .parents) (routeOf P group) r) (setState j 2 hs)
+            (λ c l. potential-new r c number l),
         sum-state potential j 2 hs (N .within),
         below,
         potential-old,

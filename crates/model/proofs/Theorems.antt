@@ -5,10 +5,10 @@ use mathlib.Core.Bool.{true}
 use mathlib.Core.List.{List, [], append-nil, map}
 use Prim.Native.Nat.{ℕ}
 use lib.ListN.{length}
-use Rattle.model.specs.Network.{Plan, Network, network, messagesOf, hopsOf}
+use Rattle.model.specs.Network.{Plan, Network, network, messagesOf, hopsOf, logOf}
 use Rattle.model.specs.declared.Hop.{Hop}
 use Rattle.model.specs.declared.Message.{Message}
-use Rattle.model.specs.Rules.{rising}
+use Rattle.model.specs.Rules.{rising, quiescent}
 use Rattle.model.specs.Calls.{Call, Run, ran, run, networkOf, historyOf}
 use Rattle.model.specs.Demand3.{Planned, sent, Demand3}
 use Rattle.model.specs.Claims.{Limits, Settled, Reading}
@@ -20,7 +20,7 @@ use Rattle.model.proofs.Demand.{sound-limits, sound-demand}
 
 -- the table is the messages sent
 module _ (P : Plan) (forest : Forest P) where
-  own-table : (ms : List Message) (hs : List Hop) (ls : List (List ℕ)) → Valid P forest (network ms hs ls) → Sound P forest ms ms hs ls
+  pub own-table : (ms : List Message) (hs : List Hop) (ls : List (List ℕ)) → Valid P forest (network ms hs ls) → Sound P forest ms ms hs ls
   unfolding Valid
   own-table ms hs ls valid = valid ms [] (sym (append-nil ms))
 
@@ -28,7 +28,7 @@ module _ (P : Plan) (forest : Forest P) where
   pub valid-limits : (W : Network) → Valid P forest W → Limits P W
   valid-limits (network ms hs ls) valid = sound-limits P forest ms ms hs ls (own-table ms hs ls valid)
 
-  run-demand : (r : Run) → KeptRun P forest r → Demand3 P (networkOf r) (historyOf r)
+  run-demand : (r : Run) → KeptRun P forest r → Demand3 P (λ u. logOf u (networkOf r)) (quiescent (networkOf r)) (historyOf r)
   unfolding KeptRun networkOf historyOf messagesOf hopsOf
   run-demand (ran (network ms hs ls) past) kept =
       sound-demand P forest ms ms hs ls (own-table ms hs ls (kept .valid)) past (kept .sends) (kept .takes)
@@ -51,7 +51,7 @@ module _ (P : Plan) (planned : Planned P) (cs : List Call) where
   forest = planned-forest P planned
 
   -- demand 3, whole
-  pub demand-3 : Demand3 P (networkOf (run P cs)) (historyOf (run P cs))
+  pub demand-3 : Demand3 P (λ u. logOf u (networkOf (run P cs))) (quiescent (networkOf (run P cs))) (historyOf (run P cs))
   demand-3 = run-demand P forest (run P cs) (kept-run P forest cs)
 
   -- what is read off the list

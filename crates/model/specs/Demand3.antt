@@ -2,13 +2,13 @@
 -- proofs/Theorems.antt.
 use mathlib.Core.Path.{_≡_}
 use Prim.Native.Nat.{ℕ, _≤_}
-use mathlib.Core.Bool.{true}
+use mathlib.Core.Bool.{Bool, true}
 use mathlib.Core.List.{List, [], _∷_, _++_}
 use lib.ListN.{length}
 use Rattle.sets.specs.Sets.{member}
 use Rattle.forest.specs.Calls.{buildRefusal, buildParents, checkRefusal, checkParents}
-use Rattle.model.specs.Network.{Plan, groupOf, routeSizeOf, Network, logOf, sumOf}
-use Rattle.model.specs.Rules.{Answer, Refused, Sent, Repeat, Held, Taken, quiescent}
+use Rattle.model.specs.Network.{Plan, groupOf, routeSizeOf, sumOf}
+use Rattle.model.specs.Rules.{Answer, Refused, Sent, Repeat, Held, Taken}
 use Rattle.model.specs.Calls.{Send, Arrive, Answered, answered}
 
 -- the plan's forest comes from an unrefused `build` or `check` with the same units and groups
@@ -81,39 +81,39 @@ sentTotal P xs = sumOf (λ x. routeSizeOf P (x .group)) xs
 -- ---- demand 3
 
 -- a is before b in some unit's log
-unfoldable pub BeforeSomewhere : Network → ℕ → ℕ → Type 0
-BeforeSomewhere W a b = (u : ℕ) × Before a b (logOf u W)
+unfoldable pub BeforeSomewhere : (ℕ → List ℕ) → ℕ → ℕ → Type 0
+BeforeSomewhere logs a b = (u : ℕ) × Before a b (logs u)
 
 -- messages from a to z, each before the next in some unit's log
-pub data Chain (W : Network) : ℕ → ℕ → List ℕ → Type 0 where
-  ends : {z : ℕ} → Chain W z z (z ∷ [])
-  next : {a b z : ℕ} {l : List ℕ} → BeforeSomewhere W a b → Chain W b z l → Chain W a z (a ∷ l)
+pub data Chain (logs : ℕ → List ℕ) : ℕ → ℕ → List ℕ → Type 0 where
+  ends : {z : ℕ} → Chain logs z z (z ∷ [])
+  next : {a b z : ℕ} {l : List ℕ} → BeforeSomewhere logs a b → Chain logs b z l → Chain logs a z (a ∷ l)
 
 -- two or more different messages, each before the next in some unit's log and the last before the first in some unit's log
-pub record Circle (W : Network) : Type 0 where
+pub record Circle (logs : ℕ → List ℕ) : Type 0 where
   pub start : ℕ
   pub end : ℕ
   pub messages : List ℕ
   pub two-or-more : 2 ≤ length messages
   pub different : Distinct messages
-  pub chain : Chain W start end messages
-  pub closes : BeforeSomewhere W end start
+  pub chain : Chain logs start end messages
+  pub closes : BeforeSomewhere logs end start
 
--- of what a list of calls leaves, and of the calls with their answers
-pub record Demand3 (P : Plan) (W : Network) (past : List Answered) : Type 0 where
+-- of each unit's log after a list of calls, of whether the bench is then at rest, and of the calls with their answers
+pub record Demand3 (P : Plan) (logs : ℕ → List ℕ) (rest : Bool) (past : List Answered) : Type 0 where
   -- the logs have no circle
-  pub no-circle : Circle W → ⊥
+  pub no-circle : Circle logs → ⊥
   -- in no log do two messages from one source to one group stand against their sent order
   pub sent-order : (a b : SentMessage) → Before a b (sent past) → a .source ≡ b .source → a .group ≡ b .group
-      → (u : ℕ) → Before (b .number) (a .number) (logOf u W) → ⊥
+      → (u : ℕ) → Before (b .number) (a .number) (logs u) → ⊥
   -- each log holds only messages sent to groups that hold its unit
-  pub addressed : (u m : ℕ) → In m (logOf u W)
+  pub addressed : (u m : ℕ) → In m (logs u)
       → (x : SentMessage) × In x (sent past) × (x .number ≡ m) × (member (groupOf P (x .group)) u ≡ true)
   -- none twice
-  pub once : (u : ℕ) → Distinct (logOf u W)
+  pub once : (u : ℕ) → Distinct (logs u)
   -- the bench is at rest exactly when the answers of taken and the route sizes of the messages sent make the same sum
-  pub rest-sums : quiescent W ≡ true → takenTotal past ≡ sentTotal P (sent past)
-  pub sums-rest : takenTotal past ≡ sentTotal P (sent past) → quiescent W ≡ true
+  pub rest-sums : rest ≡ true → takenTotal past ≡ sentTotal P (sent past)
+  pub sums-rest : takenTotal past ≡ sentTotal P (sent past) → rest ≡ true
   -- and each member's log then holds every message sent to its group
-  pub complete : quiescent W ≡ true → (x : SentMessage) → In x (sent past) → (u : ℕ) → member (groupOf P (x .group)) u ≡ true
-      → In (x .number) (logOf u W)
+  pub complete : rest ≡ true → (x : SentMessage) → In x (sent past) → (u : ℕ) → member (groupOf P (x .group)) u ≡ true
+      → In (x .number) (logs u)

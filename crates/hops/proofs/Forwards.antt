@@ -1,0 +1,61 @@
+-- Laws of `forwarded` and `forwardedHops` as the loop uses them. What is left (f, with the list zs) leads to the same end as the start, within k more hops, where k is at least
+-- the number of children left. A hop to the lowest child leaves fewer children and takes one from k; where no child is left, the end is reached for every k.
+use mathlib.Core.Path.{_≡_, refl, sym, _∙_, subst}
+use mathlib.Core.Bool.{not}
+use mathlib.Core.List.{List}
+use Prim.Native.Nat.{ℕ, zero, suc, _≤_, _<_, _^_}
+use native.Mathlib.Nat.{not-suc-le-zero}
+use native.Mathlib.Omega.{arith}
+use lib.Dec.{T, eqb}
+use lib.ListN.{length, set, length-set}
+use Rattle.sets.specs.Sets.{lowest, size}
+use Rattle.sets.proofs.Bools.{cond-true, cond-false}
+use Rattle.sets.proofs.Laws.{lowest-of-some, size-excluding, size-below}
+use Rattle.model.specs.declared.Hop.{Hop}
+use Rattle.hops.specs.declared.forwarding.Forwarding.{Forwarding}
+use Rattle.hops.specs.Access.{isLeft, nextHop, afterNext, forwarded, forwardedHops}
+use Rattle.hops.proofs.Places.{came-true, came-false}
+
+pub record Reaches (start : Forwarding) (hs : List Hop) (k : ℕ) (f : Forwarding) (zs : List Hop) : Type 0 where
+  pub enough : size (f .children) ≤ k
+  pub same : forwarded k f ≡ forwarded 32 start
+  pub same-hops : forwardedHops k f zs ≡ forwardedHops 32 start hs
+  pub as-long : length zs ≡ length hs
+
+pub at-start : (start : Forwarding) (hs : List Hop) → Reaches start hs 32 start hs
+at-start start hs = record { enough = size-below (start .children); same = refl; same-hops = refl; as-long = refl }
+
+-- a child is left: the hop to the lowest leaves fewer
+some-left : (f : Forwarding) → T (isLeft f) → f .children ≡ 0 → ⊥
+unfolding isLeft
+some-left f left none = subst (λ (n : ℕ). T (not (eqb n 0))) none left
+
+pub fewer : (f : Forwarding) → f .children < 2 ^ 32 → T (isLeft f) → size (afterNext f .children) < size (f .children)
+unfolding afterNext
+fewer f fits left = let m = lowest-of-some (f .children) fits (some-left f left) in size-excluding (f .children) (lowest (f .children)) (m .0) (m .1)
+
+module _ {start : Forwarding} {hs : List Hop} where
+  pub turned : (k : ℕ) (f : Forwarding) (zs : List Hop) → f .children < 2 ^ 32 → T (isLeft f) → Reaches start hs k f zs
+      → (j : ℕ) × Reaches start hs j (afterNext f) (set zs (f .made) (nextHop f))
+  unfolding forwarded forwardedHops
+  turned zero f zs fits left r = let less = fewer f fits left in let none : 1 ≤ 0 = omega (arith, less, r .enough) in absurd (not-suc-le-zero none)
+  turned (suc k) f zs fits left r =
+      let less = fewer f fits left in
+      let goes = came-true (isLeft f) left in (
+        k,
+        record {
+          enough = omega (arith, less, r .enough);
+          same = sym (cond-true (isLeft f) (forwarded k (afterNext f)) f goes) ∙ r .same;
+          same-hops = sym (cond-true (isLeft f) (forwardedHops k (afterNext f) (set zs (f .made) (nextHop f))) zs goes) ∙ r .same-hops;
+          as-long = length-set zs (f .made) (nextHop f) ∙ r .as-long;
+        },
+      )
+
+  pub over : (k : ℕ) (f : Forwarding) (zs : List Hop) → T (not (isLeft f)) → Reaches start hs k f zs → (f ≡ forwarded 32 start) × (zs ≡ forwardedHops 32 start hs)
+  unfolding forwarded forwardedHops
+  over zero f zs none r = (r .same, r .same-hops)
+  over (suc k) f zs none r =
+      let stops = came-false (isLeft f) none in (
+        sym (cond-false (isLeft f) (forwarded k (afterNext f)) f stops) ∙ r .same,
+        sym (cond-false (isLeft f) (forwardedHops k (afterNext f) (set zs (f .made) (nextHop f))) zs stops) ∙ r .same-hops,
+      )

@@ -1,0 +1,53 @@
+-- What the functions over the lent hops answer and leave. Definitions only.
+use Prim.Native.Nat.{ℕ, zero, suc}
+use mathlib.Core.Bool.{Bool, not, cond}
+use mathlib.Core.List.{List}
+use lib.Dec.{eqb}
+use lib.ListN.{getD, set}
+use Rattle.sets.specs.Sets.{lowest, excluding}
+use Rattle.tables.specs.Values.{plus, added, filled}
+use Rattle.model.specs.declared.Hop.{Hop}
+use Rattle.model.specs.Network.{noHop, hopAt, isPair}
+use Rattle.hops.specs.declared.forwarding.Forwarding.{Forwarding}
+
+-- the first n places hold zeros
+unfoldable pub cleared : ℕ → List Hop → List Hop
+cleared n hs = filled n noHop hs
+
+-- the first place from i on of a hop from s to r, among k places; i + k where there is none
+unfoldable pub nextOfPair : ℕ → ℕ → ℕ → ℕ → List Hop → ℕ
+nextOfPair zero s r i hs = i
+nextOfPair (suc k) s r i hs = let rest = nextOfPair k s r (suc i) hs in cond (isPair s r (hopAt hs i)) i rest
+
+-- ---- passing a message on
+
+-- a child is left
+unfoldable pub isLeft : Forwarding → Bool
+isLeft f = not (eqb (f .children) 0)
+
+-- the hop to the lowest child
+unfoldable pub nextHop : Forwarding → Hop
+nextHop f =
+    let child = lowest (f .children) in
+    record { sender = f .sender; receiver = child; sequence = plus (getD (f .counts) child 0) 1; message = f .message; state = 0 }
+
+-- what is left once that hop was made
+unfoldable pub afterNext : Forwarding → Forwarding
+afterNext f =
+    let child = lowest (f .children) in
+    record {
+      sender = f .sender;
+      message = f .message;
+      children = excluding (f .children) child;
+      made = plus (f .made) 1;
+      counts = added (f .counts) child 1;
+    }
+
+-- at most k hops made, and the list with them
+unfoldable pub forwarded : ℕ → Forwarding → Forwarding
+forwarded zero f = f
+forwarded (suc k) f = let more = forwarded k (afterNext f) in cond (isLeft f) more f
+
+unfoldable pub forwardedHops : ℕ → Forwarding → List Hop → List Hop
+forwardedHops zero f hs = hs
+forwardedHops (suc k) f hs = let more = forwardedHops k (afterNext f) (set hs (f .made) (nextHop f)) in cond (isLeft f) more hs

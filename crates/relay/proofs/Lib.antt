@@ -1,0 +1,14 @@
+pub mod Padding
+pub mod Books
+pub mod LogParts
+pub mod Sends
+pub mod Forwards
+pub mod Copies
+pub mod Searches
+pub mod Settles
+pub mod Arrivals
+pub mod Reached
+pub mod Promised
+pub mod Theorems
+pub mod Known
+pub mod Turns

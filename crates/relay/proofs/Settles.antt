@@ -1,0 +1,227 @@
+-- As long as the next hop is held, it is taken: the loop over the lent lists follows the rule's. Assumes nothing.
+use mathlib.Core.Path.{_≡_, refl, sym, ap, _∙_}
+use mathlib.Core.Logic.{by-cases}
+use mathlib.Core.Bool.{false}
+use mathlib.Core.List.{List, [], _++_, append-nil}
+use Prim.Native.Nat.{ℕ, zero, suc, _+_, _-_, _≤_, _<_}
+use native.Mathlib.Nat.{le-trans}
+use native.Mathlib.Omega.{arith}
+use native.Mathlib.Decide.{decLt}
+use borrow.Author.Tests.{lt-ltb, le-ltb}
+use lib.Dec.{ltb}
+use lib.ListN.{length}
+use Rattle.sets.specs.Sets.{member}
+use Rattle.sets.proofs.Bools.{cond-true, cond-false}
+use Rattle.model.specs.declared.Hop.{Hop}
+use Rattle.model.specs.declared.Message.{Message}
+use Rattle.model.specs.Network.{Plan, groupOf, routeOf, Network, network, noHop, messageAt, hopAt, messagesOf, hopsOf, logOf, isTaken, setState, countHops}
+use Rattle.model.specs.Network.{pairCount}
+use Rattle.model.specs.Rules.{Outcome, outcome, childrenOn, forward, logged, takeHop, nextHeld, tally, settle}
+use Rattle.model.proofs.Sequences.{Numbered, Next}
+use Rattle.model.proofs.Idle.{Idle}
+use Rattle.model.proofs.Sound.{Forest}
+use Rattle.model.proofs.Runs.{Valid, take-count}
+use Rattle.model.proofs.Theorems.{valid-limits}
+use Rattle.model.proofs.Progress.{TakenFirst, taken-first-take, next-place, idle-place, count-pair-state, take-taken, take-taken-other, forward-count-sender}
+use Rattle.relay.specs.declared.arrival.Arrival.{Arrival}
+use Rattle.relay.specs.Machine.{takeArrival, takeHops, takeBook, nextArrival, isGoing, Settling, settled}
+use Rattle.relay.specs.State.{padded, hopRecords, logBook, takenCount}
+use Rattle.relay.proofs.Copies.{arrivalOf, takes-are, copy-state, copy-valid, copy-hops, copy-book, copy-arrival, few-after, log-same}
+use Rattle.relay.proofs.Searches.{Onward, PairBelow, copy-below, onward}
+
+-- what n copies from s to r, taken since W₀, have left as it was, and what they have counted
+pub record Since (W₀ W : Network) (s r n : ℕ) : Type 0 where
+  pub none : n ≡ 0 → W ≡ W₀
+  pub messages : messagesOf W ≡ messagesOf W₀
+  pub counts : (a b : ℕ) → (a ≡ r → ⊥) → pairCount a b (hopsOf W) ≡ pairCount a b (hopsOf W₀)
+  pub others : (a b : ℕ) → (a ≡ s → b ≡ r → ⊥) → takenCount a b (hopsOf W) ≡ takenCount a b (hopsOf W₀)
+  pub own : takenCount s r (hopsOf W) ≡ takenCount s r (hopsOf W₀) + n
+  pub all : countHops isTaken (hopsOf W) ≡ countHops isTaken (hopsOf W₀) + n
+  pub logs : (u : ℕ) → (u ≡ r → ⊥) → logOf u W ≡ logOf u W₀
+
+-- the arrival, the hops and the book of a state
+unfoldable pub settlingOf : Plan → Network → (s r hold at end n : ℕ) → List Hop → List ℕ → Settling
+settlingOf P W s r hold at end n rest rest′ =
+    record { arrival = arrivalOf P W s r hold at end n; hops = hopRecords W ++ rest; book = logBook W ++ rest′ }
+
+-- the loop ends in the state in which the rule ends, with as many copies taken
+pub record Ends (P : Plan) (W₀ : Network) (s r hold end : ℕ) (rest : List Hop) (rest′ : List ℕ) (o : Settling) (out : Outcome) : Type 0 where
+  pub state : Network
+  pub taken : ℕ
+  pub place : ℕ
+  pub rule : out ≡ outcome (tally taken) state
+  pub loop : o ≡ settlingOf P state s r hold place end taken rest rest′
+  pub since : Since W₀ state s r taken
+  pub few : length (hopsOf state) ≤ 2000
+
+-- nothing to take: the rule stops
+idle-settle : (k : ℕ) (P : Plan) (s r n : ℕ) (ms : List Message) (hs : List Hop) (ls : List (List ℕ)) → Numbered hs → Idle hs s r
+    → settle k P s r n (network ms hs ls) ≡ outcome (tally n) (network ms hs ls)
+unfolding settle
+idle-settle zero P s r n ms hs ls num idle = refl
+idle-settle (suc k) P s r n ms hs ls num idle =
+    cond-false (ltb (nextHeld s r hs) (length hs)) _ _ (le-ltb (nextHeld s r hs) (length hs) (idle-place s r hs num idle))
+
+-- a next hop: the rule takes it
+next-settle : (k : ℕ) (P : Plan) (s r n j : ℕ) (ms : List Message) (hs : List Hop) (ls : List (List ℕ)) → Numbered hs → Next s r hs j
+    → settle (suc k) P s r n (network ms hs ls) ≡ settle k P s r (suc n) (takeHop P j (network ms hs ls))
+unfolding settle
+next-settle k P s r n j ms hs ls num N =
+    let here = next-place s r hs num j N in
+    cond-true (ltb (nextHeld s r hs) (length hs)) _ _ (ap (λ (i : ℕ). ltb i (length hs)) here ∙ lt-ltb j (length hs) (N .within))
+    ∙ ap (λ (i : ℕ). settle k P s r (suc n) (takeHop P i (network ms hs ls))) here
+
+going-is : (P : Plan) (W : Network) (s r hold at end n : ℕ) → isGoing (arrivalOf P W s r hold at end n) ≡ ltb at end
+unfolding isGoing arrivalOf
+going-is P W s r hold at end n = refl
+
+-- not going: the loop stops
+pub still : (f : ℕ) (a : Arrival) (hs : List Hop) (book : List ℕ) → isGoing a ≡ false
+    → settled f a hs book ≡ record { arrival = a; hops = hs; book = book }
+unfolding settled
+still zero a hs book t = refl
+still (suc f) a hs book t = cond-false (isGoing a) _ _ t
+
+module _ (P : Plan) (forest : Forest P) (W₀ : Network) (s r hold end : ℕ) (small : end ≤ 2000) (rest : List Hop) (rest′ : List ℕ) where
+  -- the loop's invariant at a state, the next copy being at place `at` and n taken
+  pub record Before (W : Network) (at n : ℕ) : Type 0 where
+    pub valid : Valid P forest W
+    pub first : TakenFirst (hopsOf W)
+    pub below : PairBelow s r end (hopsOf W)
+    pub next : at < end → Next s r (hopsOf W) at
+    pub idle : end ≤ at → Idle (hopsOf W) s r
+    pub until : at ≤ end
+    pub few : n ≤ at
+    pub since : Since W₀ W s r n
+
+  numbers : (ms : List Message) (hs : List Hop) (ls : List (List ℕ)) → Valid P forest (network ms hs ls) → Numbered hs
+  unfolding Valid
+  numbers ms hs ls ok = ok ms [] (sym (append-nil ms)) .numbers
+
+  -- ---- one copy
+
+  module _ (ms : List Message) (hs : List Hop) (ls : List (List ℕ)) (at n : ℕ) (B : Before (network ms hs ls) at n) (going : at < end) where
+    abbrev W : Network
+    W = network ms hs ls
+
+    N : Next s r hs at
+    unfolding hopsOf
+    N = B .next going
+
+    abbrev m : ℕ
+    m = hopAt hs at .message
+
+    abbrev g : ℕ
+    g = messageAt ms m .group
+
+    abbrev cs : List ℕ
+    cs = childrenOn (P .parents) (routeOf P g) r
+
+    abbrev hs′ : List Hop
+    hs′ = forward r m cs (setState at 2 hs)
+
+    abbrev ls′ : List (List ℕ)
+    ls′ = logged (member (groupOf P g) r) r m ls
+
+    abbrev W′ : Network
+    W′ = network ms hs′ ls′
+
+    small-count : n < 65535
+    small-count = omega (arith, B .few)
+
+    rule-is : takeHop P at W ≡ W′
+    rule-is = copy-state P forest ms hs ls (B .valid) s r at N rest rest′ hold end n small-count
+
+    since′ : Since W₀ W′ s r (suc n)
+    unfolding messagesOf hopsOf
+    since′ = record {
+      none = λ e. absurd (omega arith);
+      messages = B .since .messages;
+      counts = λ a b ne. forward-count-sender a b r m cs (setState at 2 hs) ne ∙ count-pair-state a b at 2 hs ∙ B .since .counts a b ne;
+      others = λ a b ne. takes-are a b hs′ ∙ take-taken-other s r r m cs hs at N a b ne ∙ sym (takes-are a b hs) ∙ B .since .others a b ne;
+      own = omega (arith, takes-are s r hs′, take-taken s r r m cs hs at N, takes-are s r hs, B .since .own);
+      all = omega (arith, ap (λ (X : Network). countHops isTaken (hopsOf X)) (sym rule-is), take-count P forest ms hs ls s r at N, B .since .all);
+      logs = λ u ne. log-same P forest ms hs ls (B .valid) s r at N rest rest′ hold end n small-count u ne ∙ B .since .logs u ne;
+    }
+
+    on : Onward P W′ s r hold at end (suc n) (padded 2000 noHop hs′ ++ rest)
+    unfolding hopsOf
+    on = onward P forest ms hs ls′ s r at N (B .first) end (B .below) m (routeOf P g)
+        (few-after P forest ms hs ls (B .valid) s r at N rest rest′ hold end n small-count) rest hold (suc n) going
+
+    before′ : Before W′ (on .place) (suc n)
+    unfolding hopsOf
+    before′ = record {
+      valid = copy-valid P forest ms hs ls (B .valid) s r at N rest rest′ hold end n small-count;
+      first = taken-first-take s r r m cs hs at N (B .first);
+      below = copy-below P forest ms hs ls′ s r at N (B .first) end (B .below) m (routeOf P g);
+      next = on .next;
+      idle = on .idle;
+      until = on .until;
+      few = omega (arith, on .rises, B .few);
+      since = since′;
+    }
+
+    abbrev start : Arrival
+    start = arrivalOf P W s r hold at end n
+
+    abbrev lent : List Hop
+    lent = hopRecords W ++ rest
+
+    abbrev book : List ℕ
+    book = logBook W ++ rest′
+
+    loop-is : (f : ℕ) → settled (suc f) start lent book
+        ≡ settled f (arrivalOf P W′ s r hold (on .place) end (suc n)) (hopRecords W′ ++ rest) (logBook W′ ++ rest′)
+    unfolding settled hopRecords hopsOf
+    loop-is f =
+        cond-true (isGoing start) _ _ (going-is P W s r hold at end n ∙ lt-ltb at end going)
+        ∙ ap (λ (x : List Hop). settled f (nextArrival (takeArrival start lent) x) x (takeBook start lent book)) hops-are
+        ∙ ap (λ (x : Arrival). settled f (nextArrival x (padded 2000 noHop hs′ ++ rest)) (padded 2000 noHop hs′ ++ rest) (takeBook start lent book))
+        (copy-arrival P forest ms hs ls (B .valid) s r at N rest rest′ hold end n small-count)
+        ∙ ap (λ (x : Arrival). settled f x (padded 2000 noHop hs′ ++ rest) (takeBook start lent book)) (on .moves)
+        ∙ ap (settled f (arrivalOf P W′ s r hold (on .place) end (suc n)) (padded 2000 noHop hs′ ++ rest))
+        (copy-book P forest ms hs ls (B .valid) s r at N rest rest′ hold end n small-count)
+      where
+        hops-are : takeHops start lent ≡ padded 2000 noHop hs′ ++ rest
+        hops-are = copy-hops P forest ms hs ls (B .valid) s r at N rest rest′ hold end n small-count
+
+  -- ---- all copies
+
+  abbrev EndsFrom : ℕ → ℕ → Network → ℕ → ℕ → Type 0
+  EndsFrom f k W at n =
+      Ends P W₀ s r hold end rest rest′ (settled f (arrivalOf P W s r hold at end n) (hopRecords W ++ rest) (logBook W ++ rest′)) (settle k P s r n W)
+
+  stops : (f k : ℕ) (ms : List Message) (hs : List Hop) (ls : List (List ℕ)) (at n : ℕ) → Before (network ms hs ls) at n → end ≤ at
+      → EndsFrom f k (network ms hs ls) at n
+  unfolding settlingOf hopsOf messagesOf
+  stops f k ms hs ls at n B over = record {
+    state = network ms hs ls;
+    taken = n;
+    place = at;
+    rule = idle-settle k P s r n ms hs ls (numbers ms hs ls (B .valid)) (B .idle over);
+    loop = still f (arrivalOf P (network ms hs ls) s r hold at end n) _ _ (going-is P _ s r hold at end n ∙ le-ltb at end over);
+    since = B .since;
+    few = let limits = valid-limits P forest (network ms hs ls) (B .valid) in le-trans (limits .hops) (limits .routes);
+  }
+
+  pub loops : (f k : ℕ) (ms : List Message) (hs : List Hop) (ls : List (List ℕ)) (at n : ℕ) → Before (network ms hs ls) at n
+      → end - at ≤ f → end - at ≤ k → EndsFrom f k (network ms hs ls) at n
+  loops zero k ms hs ls at n B fuel fuel′ = stops zero k ms hs ls at n B (omega arith)
+  loops (suc f) zero ms hs ls at n B fuel fuel′ = stops (suc f) zero ms hs ls at n B (omega arith)
+  loops (suc f) (suc k) ms hs ls at n B fuel fuel′ = by-cases (decLt at end)
+      (λ going.
+      let place = on ms hs ls at n B going .place in
+      let rises = on ms hs ls at n B going .rises in
+      let E = loops f k ms _ _ place (suc n) (before′ ms hs ls at n B going) (omega arith) (omega arith) in
+      record {
+        state = E .state;
+        taken = E .taken;
+        place = E .place;
+        rule = next-settle k P s r n at ms hs ls (numbers ms hs ls (B .valid)) (N ms hs ls at n B going)
+            ∙ ap (settle k P s r (suc n)) (rule-is ms hs ls at n B going) ∙ E .rule;
+        loop = loop-is ms hs ls at n B going f ∙ E .loop;
+        since = E .since;
+        few = E .few;
+      })
+      (λ over. stops (suc f) (suc k) ms hs ls at n B (omega arith))

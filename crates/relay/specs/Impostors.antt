@@ -1,0 +1,31 @@
+-- Wrong rules that document 01 asks to try ("For those who test"). No contract uses them: must-fail edits put them in the rules' place.
+use Prim.Native.Nat.{ℕ}
+use mathlib.Core.Bool.{Bool, cond}
+use mathlib.Core.List.{[], _∷_, _++_}
+use lib.ListN.{getD}
+use Rattle.sets.specs.Sets.{member}
+use Rattle.model.specs.Network.{Plan, groupOf, Network, network, setState}
+use Rattle.model.specs.Rules.{Answer, Refused, Sent, Repeat, Held, Taken, Outcome, outcome, answerOf, leftOf, send, arrive}
+use Rattle.relay.specs.State.{listed}
+
+-- message m at the end of the log of each unit that passes a test
+unfoldable pub logAt : (ℕ → Bool) → ℕ → Network → Network
+logAt test m (network ms hs ls) = network ms hs (listed 32 (λ u. cond (test u) (getD ls u [] ++ m ∷ []) (getD ls u [])))
+
+-- a message that was sent is logged at every member at once
+unfoldable pub logIfSent : (ℕ → Bool) → Answer → Network → Network
+logIfSent test (Refused k) W = W
+logIfSent test (Sent m) W = logAt test m W
+logIfSent test Repeat W = W
+logIfSent test Held W = W
+logIfSent test (Taken n) W = W
+
+unfoldable pub sendLogging : Plan → (source group word : ℕ) → Network → Outcome
+sendLogging P s g w W = let o = send P s g w W in outcome (answerOf o) (logIfSent (member (groupOf P g)) (answerOf o) (leftOf o))
+
+-- the answer of an arrival, and the hop taken, but nothing logged and no hop made
+unfoldable pub takenOnly : ℕ → Network → Network
+takenOnly j (network ms hs ls) = network ms (setState j 2 hs) ls
+
+unfoldable pub arrivePretending : Plan → ℕ → Network → Outcome
+arrivePretending P j W = outcome (answerOf (arrive P j W)) (takenOnly j W)

@@ -1,0 +1,104 @@
+-- What each call promises (document 01, "For those who test"): these records stand in the contracts. Definitions only.
+-- The one premise: the forest comes from an unrefused `build` or `check` with the same units and groups (`Planned`), and bench, hops and
+-- book are those that a list of calls has left. Of a longer list the first 2,000 hops and 6,400 numbers are used, and the rest stays.
+use mathlib.Core.Path.{_≡_}
+use mathlib.Core.Logic.{_⊎_}
+use Prim.Native.Nat.{ℕ, _*_, _≤_, _<_}
+use mathlib.Core.List.{List, [], _∷_, _++_}
+use lib.ListN.{length, take, drop}
+use Rattle.model.specs.declared.Hop.{Hop}
+use Rattle.model.specs.Network.{Plan, Network, fresh}
+use Rattle.model.specs.Rules.{Outcome, Refused, answerOf, leftOf, quiescent}
+use Rattle.model.specs.Rules.{send}
+use Rattle.model.specs.Rules.{arrive}
+use Rattle.model.specs.Calls.{Call, run, networkOf, LogAnswer, LogRefused, Log, log, RestRefused, Rest}
+use Rattle.model.specs.Demand3.{Planned}
+use Rattle.relay.specs.declared.Bench.{Bench}
+use Rattle.relay.specs.declared.Fresh.{Fresh}
+use Rattle.relay.specs.declared.Sent.{Sent}
+use Rattle.relay.specs.declared.Arrived.{Arrived}
+use Rattle.relay.specs.declared.replies.LogReply.{LogReply}
+use Rattle.relay.specs.declared.replies.RestReply.{RestReply}
+use Rattle.relay.specs.Replies.{freshAnswer, sendAnswer, arriveAnswer, LengthAnswer, LengthRefused, Length, logAnswer, restAnswer}
+use Rattle.relay.specs.State.{hopRecords, logBook, benchOf}
+
+-- the state of the rules after a list of calls
+unfoldable pub after : Plan → List Call → Network
+after P cs = networkOf (run P cs)
+
+-- the lent hops, the lent book are those of a state
+pub record OfHops (W : Network) (hs : List Hop) : Type 0 where
+  pub whole : 2000 ≤ length hs
+  pub records : take 2000 hs ≡ hopRecords W
+
+pub record OfBook (W : Network) (book : List ℕ) : Type 0 where
+  pub whole : 6400 ≤ length book
+  pub numbers : take 6400 book ≡ logBook W
+
+-- ---- fresh: on these units, groups and parents, lent `hops` and `book`, which become `hops-left` and `book-left`
+
+pub record FreshPromise (units count : ℕ) (groups parents : List ℕ) (hops : List Hop) (book : List ℕ)
+    (r : Fresh) (hops-left : List Hop) (book-left : List ℕ) : Type 0 where
+  pub short : (length hops < 2000) ⊎ (length book < 6400) → (freshAnswer (r .reply) ≡ 1 ∷ []) × (hops-left ≡ hops) × (book-left ≡ book)
+  pub whole : 2000 ≤ length hops → 6400 ≤ length book → (freshAnswer (r .reply) ≡ [])
+      × (hops-left ≡ hopRecords fresh ++ drop 2000 hops) × (book-left ≡ logBook fresh ++ drop 6400 book)
+  -- document 01 does not say which bench stands beside a refusal: it is the same
+  pub bench : r .bench ≡ benchOf (record { units = units; count = count; groups = groups; parents = parents }) fresh
+
+-- ---- send
+
+-- what a send answers and leaves is the rule's outcome o
+pub record SentAs (P : Plan) (o : Outcome) (hops : List Hop) (r : Sent) (hops-left : List Hop) : Type 0 where
+  pub answer : sendAnswer (r .reply) ≡ answerOf o
+  pub bench : r .bench ≡ benchOf P (leftOf o)
+  pub records : hops-left ≡ hopRecords (leftOf o) ++ drop 2000 hops
+
+pub record SendPromise (b : Bench) (source group word : ℕ) (hops : List Hop) (r : Sent) (hops-left : List Hop) : Type 0 where
+  pub short : length hops < 2000 → (sendAnswer (r .reply) ≡ Refused 1) × (r .bench ≡ b) × (hops-left ≡ hops)
+  pub rule : (P : Plan) → Planned P → (cs : List Call) → b ≡ benchOf P (after P cs) → OfHops (after P cs) hops
+      → SentAs P (send P source group word (after P cs)) hops r hops-left
+
+-- ---- arrive
+
+pub record ArrivedAs (P : Plan) (o : Outcome) (hops : List Hop) (book : List ℕ)
+    (r : Arrived) (hops-left : List Hop) (book-left : List ℕ) : Type 0 where
+  pub answer : arriveAnswer (r .reply) ≡ answerOf o
+  pub bench : r .bench ≡ benchOf P (leftOf o)
+  pub records : hops-left ≡ hopRecords (leftOf o) ++ drop 2000 hops
+  pub numbers : book-left ≡ logBook (leftOf o) ++ drop 6400 book
+
+pub record ArrivePromise (b : Bench) (hop : ℕ) (hops : List Hop) (book : List ℕ)
+    (r : Arrived) (hops-left : List Hop) (book-left : List ℕ) : Type 0 where
+  pub short : (length hops < 2000) ⊎ (length book < 6400)
+      → (arriveAnswer (r .reply) ≡ Refused 1) × (r .bench ≡ b) × (hops-left ≡ hops) × (book-left ≡ book)
+  pub rule : (P : Plan) → Planned P → (cs : List Call) → b ≡ benchOf P (after P cs) → OfHops (after P cs) hops → OfBook (after P cs) book
+      → ArrivedAs P (arrive P hop (after P cs)) hops book r hops-left book-left
+
+-- ---- rest
+
+pub record RestPromise (b : Bench) (hops : List Hop) (r : RestReply) : Type 0 where
+  pub short : length hops < 2000 → restAnswer r ≡ RestRefused 1
+  pub rule : (P : Plan) → Planned P → (cs : List Call) → b ≡ benchOf P (after P cs) → OfHops (after P cs) hops
+      → restAnswer r ≡ Rest (quiescent (after P cs))
+
+-- ---- log
+
+-- what log hands back; and what the second call answers
+unfoldable pub handedBack : LogAnswer → List ℕ
+handedBack (LogRefused k) = []
+handedBack (Log l) = l
+
+unfoldable pub lengthAnswer : LogAnswer → LengthAnswer
+lengthAnswer (LogRefused k) = LengthRefused k
+lengthAnswer (Log l) = Length (length l)
+
+-- `part` is the part of the lent book from the row's start to the log's length
+pub record LogPromise (b : Bench) (unit : ℕ) (book part : List ℕ) : Type 0 where
+  pub short : length book < 6400 → part ≡ []
+  pub rule : (P : Plan) → Planned P → (cs : List Call) → b ≡ benchOf P (after P cs) → OfBook (after P cs) book
+      → (part ≡ handedBack (log P unit (length book) (after P cs))) × (part ≡ take (length part) (drop (unit * 200) book))
+
+pub record LengthPromise (b : Bench) (unit : ℕ) (book : List ℕ) (r : LogReply) : Type 0 where
+  pub short : length book < 6400 → logAnswer r ≡ LengthRefused 1
+  pub rule : (P : Plan) → Planned P → (cs : List Call) → b ≡ benchOf P (after P cs) → OfBook (after P cs) book
+      → logAnswer r ≡ lengthAnswer (log P unit (length book) (after P cs))

@@ -10,6 +10,7 @@ use borrow.Author.Tests.{ltb-false, leb-false, le-ltb, eq-eqb, ne-eqb}
 use lib.Dec.{ltb, leb, eqb}
 use lib.ListN.{length, getD, set}
 use lib.Seq.{set-out}
+use Rattle.sets.specs.Sets.{size}
 use Rattle.sets.proofs.Bools.{cond-false}
 use Rattle.sets.proofs.Laws.{member-below, collect-below, size-below, size-positive}
 use Rattle.forest.specs.Forest.{route, routeSize}
@@ -24,7 +25,7 @@ use Rattle.model.proofs.Sound.{Forest}
 use Rattle.routing.specs.Computed.{topology}
 use Rattle.tables.specs.Values.{plus, byte, rowOf, added, recorded}
 use Rattle.relay.specs.declared.Bench.{Bench}
-use Rattle.relay.specs.Machine.{countOf, sendRefusal, firstHop, recordedBench, sentBench, sentReply}
+use Rattle.relay.specs.Machine.{countOf, sizeAt, sendRefusal, firstHop, recordedBench, sentBench, sentReply}
 use Rattle.relay.specs.Replies.{sendAnswer}
 use Rattle.relay.specs.State.{padded, hopRecords, pairTable, takenCount, messageTable, benchOf}
 use Rattle.relay.proofs.Padding.{plus-small, byte-small, padded-length, padded-snoc, append-set, tabulate-at, row-at, count-at}
@@ -50,9 +51,9 @@ pub primary-at : (P : Plan) (W : Network) (g : ℕ) → g < 24 → getD (benchOf
 unfolding benchOf topology primaryOf groupOf
 primary-at P W g b = tabulate-at 24 _ g 0 b
 
-pub size-at : (P : Plan) (W : Network) (g : ℕ) → g < 24 → getD (benchOf P W .topology .sizes) g 0 ≡ routeSizeOf P g
-unfolding benchOf topology routeSizeOf groupOf
-size-at P W g b = tabulate-at 24 _ g 0 b
+pub size-at : (P : Plan) (W : Network) (g : ℕ) → g < 24 → sizeAt (benchOf P W) g ≡ routeSizeOf P g
+unfolding sizeAt benchOf topology routeSizeOf routeSize groupOf
+size-at P W g b = ap size (tabulate-at 24 _ g 0 b)
 
 -- ---- one hop more
 
@@ -164,11 +165,11 @@ module _ (P : Plan) (forest : Forest P) (ms : List Message) (hs : List Hop) (ls 
       state = 0;
     }
 
-    messages-are : recorded (messageTable P ms) (byte s) (byte g) w (getD (b .topology .sizes) g 0) ≡ messageTable P (messagesOf W′)
+    messages-are : recorded (messageTable P ms) (byte s) (byte g) w (sizeAt b g) ≡ messageTable P (messagesOf W′)
     unfolding messagesOf
     messages-are =
-        ap (λ (k : ℕ). recorded (messageTable P ms) k (byte g) w (getD (b .topology .sizes) g 0)) (byte-small s (omega (arith, source-unit)))
-        ∙ ap (λ (k : ℕ). recorded (messageTable P ms) s k w (getD (b .topology .sizes) g 0)) (byte-small g (omega (arith, group-place)))
+        ap (λ (k : ℕ). recorded (messageTable P ms) k (byte g) w (sizeAt b g)) (byte-small s (omega (arith, source-unit)))
+        ∙ ap (λ (k : ℕ). recorded (messageTable P ms) s k w (sizeAt b g)) (byte-small g (omega (arith, group-place)))
         ∙ ap (recorded (messageTable P ms) s g w) (size-at P W g group-place)
         ∙ messages-snoc P ms s g w fewer (omega (arith, routed))
 
@@ -207,7 +208,7 @@ module _ (P : Plan) (forest : Forest P) (ms : List Message) (hs : List Hop) (ls 
     hops = ap (λ (i : ℕ). set lent i (firstHop b s g)) (cond-false (eqb number 0) _ _ none) ∙ set-out lent (length lent) _ (omega arith);
   }
 
-  size-is : leb (P .count) g ≡ false → ltb 2000 (plus (routeTotal P ms) (getD (b .topology .sizes) g 0)) ≡ ltb 2000 (routeTotal P ms + routeSizeOf P g)
+  size-is : leb (P .count) g ≡ false → ltb 2000 (plus (routeTotal P ms) (sizeAt b g)) ≡ ltb 2000 (routeTotal P ms + routeSizeOf P g)
   size-is t =
       ap (λ (k : ℕ). ltb 2000 (plus (routeTotal P ms) k)) (size-at P W g (le-trans (leb-false (P .count) g t) (forest .few-groups)))
       ∙ ap (ltb 2000) (plus-small (routeTotal P ms) (routeSizeOf P g) (omega (arith, few-routes, route-few P g)))

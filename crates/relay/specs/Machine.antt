@@ -5,7 +5,7 @@ use mathlib.Core.Bool.{Bool, not, _&&_, _||_, cond}
 use mathlib.Core.List.{List}
 use lib.Dec.{ltb, leb, eqb}
 use lib.ListN.{length, getD, set, replicate, take, drop}
-use Rattle.sets.specs.Sets.{member, intersection}
+use Rattle.sets.specs.Sets.{member, intersection, size}
 use Rattle.model.specs.declared.Hop.{Hop}
 use Rattle.model.specs.Network.{noHop, hopAt, setState, isOut, isHeld}
 use Rattle.model.specs.Rules.{refuse}
@@ -61,6 +61,10 @@ freshBook hs book = filled (cond (isShort (length hs) (length book)) 0 6400) 0 b
 
 -- ---- send
 
+-- the size of a group's route
+unfoldable pub sizeAt : Bench → ℕ → ℕ
+sizeAt b g = size (getD (b .topology .routes) g 0)
+
 -- the number of a refusal, or 0
 unfoldable pub sendRefusal : Bench → (source group hops : ℕ) → ℕ
 sendRefusal b s g hops =
@@ -68,7 +72,7 @@ sendRefusal b s g hops =
     (refuse (leb (b .topology .units) s) 12
     (refuse (leb (b .topology .count) g) 13
     (refuse (leb 200 (b .messages .sent)) 14
-    (refuse (ltb 2000 (plus (b .messages .routed) (getD (b .topology .sizes) g 0))) 15 0))))
+    (refuse (ltb 2000 (plus (b .messages .routed) (sizeAt b g))) 15 0))))
 
 unfoldable pub firstHop : Bench → ℕ → ℕ → Hop
 firstHop b s g =
@@ -86,7 +90,7 @@ recordedBench b s g w =
     let counts = b .counts .grid in
     record {
       topology = b .topology;
-      messages = recorded (b .messages) (byte s) (byte g) w (getD (b .topology .sizes) g 0);
+      messages = recorded (b .messages) (byte s) (byte g) w (sizeAt b g);
       made = plus (b .made) 1;
       taken = b .taken;
       counts = record { grid = set counts s (added (rowOf counts s) (getD (b .topology .primaries) g 0) 1) };

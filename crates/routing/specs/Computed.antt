@@ -6,7 +6,7 @@ use lib.Dec.{eqb}
 use lib.ListN.{getD}
 use Rattle.sets.specs.Sets.{collect}
 use Rattle.layout.specs.Tables.{tabulate}
-use Rattle.forest.specs.Forest.{parent, primary, route, routeSize}
+use Rattle.forest.specs.Forest.{parent, primary, route}
 use Rattle.routing.specs.declared.Topology.{Topology}
 
 unfoldable pub isChild : List ℕ → ℕ → ℕ → Bool
@@ -23,5 +23,4 @@ topology n c gs ps = record {
   children = tabulate 32 (childrenOf ps);
   primaries = tabulate 24 (λ g. primary ps (getD gs g 0));
   routes = tabulate 24 (λ g. route ps (getD gs g 0));
-  sizes = tabulate 24 (λ g. routeSize ps (getD gs g 0));
 }

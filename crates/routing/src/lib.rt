@@ -1,9 +1,10 @@
-// What a bench is made for, computed once: groups, their primaries, routes and route sizes (document 01: ways and way sizes),
+// What a bench is made for, computed once: groups, their primaries and routes (document 01: ways),
 // and the children of each unit.
 ghost use mathlib.Core.Path.{_≡_};
 ghost use lib.ListN.{getD};
+ghost use Rattle.sets.specs.Sets.{size as sizeOf};
 ghost use Rattle.layout.specs.Tables.{tabulate};
-ghost use Rattle.forest.specs.Forest.{primary as primaryOf, route as routeOf, routeSize as routeSizeOf};
+ghost use Rattle.forest.specs.Forest.{primary as primaryOf, route as routeOf};
 ghost use Rattle.routing.specs.Computed.{isChild, childrenOf, topology};
 
 pub struct Topology {
@@ -13,7 +14,6 @@ pub struct Topology {
     pub children: [u32; 32],
     pub primaries: [u8; 24],
     pub routes: [u32; 24],
-    pub sizes: [u16; 24],
 }
 
 // Whether c is a child of u.
@@ -85,26 +85,6 @@ fn routes(parents: [u8; 32], groups: [u32; 24]) -> [u32; 24]
     table
 }
 
-// The size of a route.
-fn size_at(parents: [u8; 32], group: u32) -> u16
-    ensures { λ r. ⌜ r ≡ routeSizeOf parents group ⌝ }
-{
-    sets::size(forest::routes::route(parents, group)) as u16
-}
-
-// The size of each group's route.
-fn sizes(parents: [u8; 32], groups: [u32; 24]) -> [u16; 24]
-    ensures { λ r. ⌜ r ≡ tabulate 24 (λ g. routeSizeOf parents (getD groups g 0)) ⌝ }
-{
-    let mut table = [0u16; 24];
-    let mut g = 0;
-    while g < 24 {
-        table[g] = size_at(parents, groups[g]);
-        g += 1;
-    }
-    table
-}
-
 // The topology of units, groups and parents.
 pub fn of(units: usize, groups: [u32; 24], count: usize, parents: [u8; 32]) -> Topology
     ensures { λ r. ⌜ r ≡ topology units count groups parents ⌝ }
@@ -112,7 +92,6 @@ pub fn of(units: usize, groups: [u32; 24], count: usize, parents: [u8; 32]) -> T
     let below = children(parents);
     let tops = primaries(parents, groups);
     let ways = routes(parents, groups);
-    let lengths = sizes(parents, groups);
     Topology {
         units,
         count,
@@ -120,7 +99,6 @@ pub fn of(units: usize, groups: [u32; 24], count: usize, parents: [u8; 32]) -> T
         children: below,
         primaries: tops,
         routes: ways,
-        sizes: lengths,
     }
 }
 
@@ -154,14 +132,12 @@ pub fn route(topology: Topology, g: usize) -> u32
     0
 }
 
-// Its route's size.
+// Its route's size (document 01: way size).
 pub fn size(topology: Topology, g: usize) -> u16
-    ensures { λ r. ⌜ r ≡ getD (topology .sizes) g 0 ⌝ }
+    ensures { λ r. ⌜ r ≡ sizeOf (getD (topology .routes) g 0) ⌝ }
 {
-    if g < 24 {
-        return topology.sizes[g];
-    }
-    0
+    let way = route(topology, g);
+    sets::size(way) as u16
 }
 
 // The children of a unit.

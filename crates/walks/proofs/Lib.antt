@@ -1,9 +1,9 @@
 pub mod Prelude
 pub mod Lending
+pub mod Values
 pub mod Calling
 pub mod Proving
+pub mod Locals
 pub mod Walks
 pub mod Branches
 pub mod ByRule
-pub mod Values
-pub mod Locals

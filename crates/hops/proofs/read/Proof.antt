@@ -1,100 +1,50 @@
--- `read` meets its contract: a walk of its MIR, by hand. A place within the slice is read there; past it, `no_hop` answers.
--- The slice is Copy: one copy of what it owns is kept for the exit, and the other is looked into.
-use Rattle.walks.proofs.Prelude.{_≡_, refl, sym, ℕ, _<_, _^_, List, [], _∷_, ltb→lt, nltb→le, length, getD, URA, fullShare, named, w64, tyPtr, Val, vint, vptr, SProp, ent, emp, via}
-use Rattle.walks.proofs.Prelude.{fst∗, Lft, GName, Share, ftrue, fat, flft, Memory, Routine, Heap, Tables, WpFn, Atoms, Fun, givenOf, Given, Item, ‵, _⊛_, ⋆, _$_, _∵_, !, qed, by}
-use Rattle.walks.proofs.Prelude.{move, keep, split, join, rewrite, fsplit, fjoin, suffices, frame, done, whole, sub, look-in, look, look-raw, init, stop, hop, fld, from, load, lit}
-use Rattle.walks.proofs.Prelude.{of-opd, bin, assigns, land, returns, enter, alloc1, alloc0, params1, pass1, pass0, owns, uint-vals, uint-tells, usize, RefT, plain, Room, sliceVal}
-use Rattle.walks.proofs.Prelude.{slice-vals, place-is, nothing, onEntry, says, Stays, stay-none, walkOf, goes-none, Walks, ends-at, walked, yes}
+-- `read` meets its contract: a walk of its MIR, by hand. Where the place is in the list the slice is looked into, and the record there is read; past it, `no_hop` answers.
+use Rattle.walks.proofs.Prelude.{refl, sym, ap, subst, [], _∷_, List, ℕ, _<_, _≤_, ltb→lt, nltb→le, getD, URA, w64, WT, vint, vptr, emp, Heap, Tables, Atoms, fmOf, factI, givenOf}
+use Rattle.walks.proofs.Prelude.{tablesOf, Given, ‵, _$_, !, check, done, look, init, look-raw, stop, hop, from, load, lit, of-opd, no-more, bin, returns, returns-within, Is}
+use Rattle.walks.proofs.Prelude.{place-is, Triple, cited, copied, Loan, Views, looks, shuts, Handed, Fit, contractOf, calls, Duty, Rooms, suited, Goes, starts, duty, Done-at}
+use Rattle.walks.proofs.Prelude.{own-tables, proved-own, var, len-of, base-of, equals, sets, into, empty, holds, full, leaves, if-then}
 use Rattle.model.specs.declared.Hop.{Hop}
-use contract.Running.{tablesOf}
-use types.Run.{returns-within}
-use sound.WpLaws.{fmOf}
-use denote.Slice.{ShrSlice, shr-slice-tells}
-use denote.Index.{shuts-slice}
-use denote.Triple.Statement.{Triple}
-use denote.Triple.Table.{cited}
-use denote.Triple.Walked.{stay-none-slice, goes-none-slice}
 use Rattle.model.specs.Network.{noHop, hopAt}
-use Rattle.hops.proofs.Records.{R, lies, low, Low, typed, zeros-low, out, back-in, owned-hop}
-use Rattle.hops.proofs.SharedRecords.{Shared, twice, looks-into, hop-within, hop-past, place-fits, owned-usize}
-use Rattle.walks.proofs.Walks.{empty, holds, leaves, tablesAt, proves}
-use Rattle.walks.proofs.Branches.{if-then}
-use Rattle.hops.proofs.Callees.{NoHop, calls-no-hop}
+use Rattle.hops.proofs.Records.{R, low, by-hop, typed, out, back-in, hop-past, place-fits}
+use Rattle.hops.proofs.Called.{read-callee, no-hop-callee}
 use Rattle.hops.proofs.no_hop.Symbol as no-hop-def
-use Rattle.hops.proofs.no_hop.Symbol.{name as #no-hop}
 use Rattle.hops.proofs.no_hop.Met as no-hop-thm
 use Rattle.hops.proofs.read.Key.{name as #read}
-use Rattle.hops.proofs.read as fn
 use Rattle.hops.proofs.read.Statement as stated
 use Rattle.hops.proofs.read.Code as code
 use Rattle.hops.proofs.read.Code.Mir.{locals}
 
-abbrev stayed : Stays (fn.ended .signature .params) (fn.ended .kept)
-stayed = (stay-none-slice (0 ∷ []) tt (plain (λ _. R)) yes, (stay-none (λ _. usize) yes, tt))
+module _ {M : Type 1} (𝓤 : URA M) (H : Heap 𝓤) (A : Atoms 𝓤) (W : Given 𝓤 H A) (𝓣 : Tables 𝓤 H) (known : Triple 𝓤 (𝓣 .C no-hop-def.name) (contractOf (no-hop-callee 𝓤 H A))) where
+  abbrev self : Duty 𝓤 H A
+  self = duty (read-callee 𝓤 H A)
 
-module _ {M : Type 1} (𝓤 : URA M) (H : Heap 𝓤) (A : Atoms 𝓤) (W : Given 𝓤 H A) (at-mem : Memory → SProp 𝓤) (run : Routine → Fun 𝓤) (κ : Lft) (q : Share) (b o : ℕ) (γ : GName)
-    (hs : List Hop) (at : ℕ) (at-fits : at < 2 ^ 64) (room : Room R (length hs)) where
-  abbrev x : RefT (List Hop)
-  x = lies b o γ hs
-
-  abbrev s : Val
-  s = sliceVal (b, o) (length hs)
-
-  abbrev bound : walkOf 𝓤 H A fn.ended stayed (fn.clauses 𝓤 H A at-mem run) .Ghost
-  bound = (((κ, tt), (q, tt), tt, (x, (at, tt)), (s ∷ [], (vint w64 at ∷ [], tt))), tt)
-
-  abbrev Post : Val → SProp 𝓤
-  Post = walkOf 𝓤 H A fn.ended stayed (fn.clauses 𝓤 H A at-mem run) .post bound
-
-  -- all that is had beside the locals
-  abbrev Kept : List (Item 𝓤)
-  Kept = ‵ (flft κ q) ∷ ‵ (Shared κ x) ∷ []
-
-  exits : (h : Hop) → h ≡ hopAt hs at → Low h → ent 𝓤 (⋆ 𝓤 H A Kept) (Post (low h))
-  exits h e is =
-      qed W Kept ∵ suffices ! _ (ends-at 𝓤 H A fn.ended stayed (fn.clauses 𝓤 H A at-mem run) W bound (low h) h (tt, (tt, tt)) (tt, (tt, tt))) $ says ! e $
-      nothing ! $ move ! (1 ∷ 0 ∷ []) $ join ! $ frame ! $
-      nothing ! $ owned-usize ! at at-fits $ fjoin ! $ move ! (1 ∷ 0 ∷ []) $ fjoin ! $ frame ! $
-      owned-hop ! h is $ done !
-
-  walk : (𝓣 : Tables 𝓤 H) → Triple 𝓤 (𝓣 .C #no-hop) (NoHop 𝓤 H A W at-mem run)
-      → ent 𝓤 (onEntry 𝓤 H A fn.signature (κ, tt) (q, tt) (x, (at, tt)) (s ∷ [], (vint w64 at ∷ [], tt))) (WpFn 𝓤 H (𝓣 .C) (𝓣 .Λ) code.function (s ∷ vint w64 at ∷ []) Post)
-  walk 𝓣 known =
-      qed W ((‵ (flft κ q) ⊛ ‵ ftrue) ∷ ‵ (owns (ShrSlice (named 0) κ R ∷ usize ∷ []) (x, (at, tt)) (s ∷ [], (vint w64 at ∷ [], tt))) ∷ []) ∵
-      split ! $ move ! (2 ∷ []) $ fsplit ! $ keep ! (2 ∷ 0 ∷ []) $ enter ! (𝓣 .C) (𝓣 .Λ) code.function (s ∷ vint w64 at ∷ []) _ $
-      alloc1 ! (λ l₀. alloc1 ! (λ l₁. alloc1 ! (λ l₂. alloc1 ! (λ l₃. alloc1 ! (λ l₄. alloc1 ! (λ l₅. alloc1 ! (λ l₆. alloc1 ! (λ l₇. alloc0 ! $ params1 ! $
-      pass1 ! (init ! 12 refl (tt, (tt, (record { fits = room .0 }, tt)))) $ pass1 ! (init ! 10 refl (tt, record { fits = at-fits })) $ pass0 ! $
-      let ls : List ℕ = l₀ ∷ l₁ ∷ l₂ ∷ l₃ ∷ l₄ ∷ l₅ ∷ l₆ ∷ l₇ ∷ [] in
-      move ! (16 ∷ 17 ∷ []) $
-      -- [the token; the slice; _7; …; _6; …; _5; …; _4; …; _3; …; _2; …; _1; …; _0; …]
-      assigns ! (of-opd ! (load ! (from ! (fld ! refl (stop !))) (look-in ! 14 (sub ! 1 refl (whole !))))) (from ! (stop !)) (init ! 10 refl (tt, record { fits = room .0 })) $
-      assigns ! (bin ! (load ! (from ! (stop !)) (look ! 12 refl)) (load ! (from ! (stop !)) (look ! 10 refl)) tt) (from ! (stop !)) (init ! 8 refl (tt, tt)) $
-      if-then ! (load ! (from ! (stop !)) (look ! 8 refl))
-      (λ less. let within = ltb→lt at (length hs) less in let fits = place-fits hs at room within in
-      assigns ! (bin ! (load ! (from ! (stop !)) (look ! 12 refl)) (lit ! tt) (record { fits = fits })) (from ! (stop !)) (init ! 6 refl (tt, record { fits = fits })) $
-      assigns ! (bin ! (load ! (from ! (fld ! refl (stop !))) (look-in ! 14 (sub ! 0 refl (whole !)))) (load ! (from ! (stop !)) (look ! 6 refl)) tt) (from ! (stop !)) (init ! 4 refl (tt, tt)) $
-      rewrite ! 4 (λ (p : ℕ). ‵ (fat fullShare tyPtr l₆ 0 (vptr b p))) (sym (place-is 8 o at)) refl $
-      move ! (1 ∷ []) $ twice ! κ x $ move ! (0 ∷ 2 ∷ []) $ looks-into ! tt b o hs (λ q′. out ! q′ hs at b o within (λ is.
-      -- [hops[at]; what it owns; the others; what shuts; the slice; _7; …]
-      assigns ! (of-opd ! (load ! (from ! (hop ! (look ! 7 refl) (stop !))) (look-raw ! 0 refl))) (from ! (stop !)) (init ! 5 refl (typed (getD hs at noHop) is)) $
-      assigns ! (of-opd ! (load ! (from ! (stop !)) (look ! 5 refl))) (from ! (stop !)) (init ! 19 refl (typed (getD hs at noHop) is)) $
-      back-in ! q′ hs at b o within $ shuts-slice ! tt R q′ hs b o $ returns-within ! Post refl (look ! 16 refl) $
-      leaves ! Kept locals ls (holds _ ∷ holds _ ∷ holds _ ∷ holds _ ∷ holds _ ∷ holds _ ∷ holds _ ∷ holds _ ∷ []) [] tt $ by ! (exits (getD hs at noHop) (hop-within hs at) is))))
-      (λ over.
-      calls-no-hop ! at-mem run (fmOf 𝓤 H (W .laws) 𝓣) known $ land ! (from ! (stop !)) (init ! 16 refl (typed noHop zeros-low)) $ returns ! (look ! 16 refl) $
-      leaves ! Kept locals ls (holds _ ∷ holds _ ∷ holds _ ∷ holds _ ∷ holds _ ∷ empty ∷ empty ∷ empty ∷ []) [] tt $
-      by ! (exits noHop (hop-past hs at (nltb→le at (length hs) over)) zeros-low))))))))))
-
-walks : {M : Type 1} (𝓤 : URA M) (H : Heap 𝓤) (A : Atoms 𝓤) (W : Given 𝓤 H A) (at-mem : Memory → SProp 𝓤) (run : Routine → Fun 𝓤) (𝓣 : Tables 𝓤 H)
-    → Triple 𝓤 (𝓣 .C #no-hop) (NoHop 𝓤 H A W at-mem run) → Walks 𝓤 H A fn.ended stayed (WpFn 𝓤 H (𝓣 .C) (𝓣 .Λ) code.function) (fn.clauses 𝓤 H A at-mem run)
-walks 𝓤 H A W at-mem run 𝓣 known = walked 𝓤 H A fn.ended stayed (fn.clauses 𝓤 H A at-mem run) (WpFn 𝓤 H (𝓣 .C) (𝓣 .Λ) code.function)
-    (λ κs. (slice-vals, (uint-vals w64, tt))) (λ κs. (shr-slice-tells (named 0) (κs .0) R, (uint-tells w64, tt))) (λ κs qs bounds a g are. via 𝓤 _ (fst∗ 𝓤 _ (emp 𝓤))
-    (walk 𝓤 H A W at-mem run (κs .0) (qs .0) (a .0 .ptr .0) (a .0 .ptr .1) (a .0 .name) (a .0 .now) (a .1 .0) (are .1 .0 .1) (are .0 .0 .1) 𝓣 known))
+  walk : (h : Handed (self .passes)) → Fit (self .passes) h → Rooms (self .passes) h → Goes self 𝓣 code.function h
+  unfolding hopAt
+  walk h fit rooms =
+      let L : Loan = h .0 .0 in let hs : List Hop = h .0 .1 in let at : ℕ = h .1 .0 in let b : ℕ = L .block in let o : ℕ = L .byte in
+      let count : WT (vint w64 (L .count)) = record { fits = rooms .0 .0 .0 } in
+      starts W self 𝓣 code.function h (suited W (self .passes) h fit rooms) (λ bs.
+      -- [the slice; _7; …; _6; …; _5; …; _4; …; _3; …; _2; …; _1; …; _0; …]
+      sets ! (of-opd ! (len-of ! 13 refl refl)) (init ! 9 refl (tt, count)) $ sets ! (bin ! (var ! 11 refl) (var ! 9 refl) tt) (init ! 7 refl (tt, tt)) $
+      if-then ! (var ! 7 refl)
+      (λ less. let before = ltb→lt at (L .count) less in let within = subst (λ (n : ℕ). at < n) (rooms .0 .1) before in let fits = place-fits (L .count) at (rooms .0 .0) before in
+      sets ! (bin ! (var ! 11 refl) (lit ! tt) (record { fits = fits })) (init ! 5 refl (tt, record { fits = fits })) $
+      sets ! (equals (ap (vptr b) (sym (place-is 8 o at))) (bin ! (base-of ! 13 refl refl) (var ! 5 refl) tt)) (init ! 3 refl (tt, tt)) $
+      looks R L ! tt (λ x. low x ∷ []) (by-hop .told) (copied R by-hop 𝓤 H A W) hs (λ q p. out ! q hs at b o within (λ is.
+      -- [hops[at]; what it owns; the others; the open borrow; the borrow itself; its name; _7; …]
+      sets ! (of-opd ! (load ! (from ! (hop ! (look ! 8 refl) (stop !))) (look-raw ! 0 refl))) (init ! 6 refl (typed (getD hs at noHop) is)) $
+      sets ! (of-opd ! (var ! 6 refl)) (init ! 20 refl (typed (getD hs at noHop) is)) $
+      back-in ! q hs at b o within $ shuts R L ! tt q hs p $ returns-within ! (Done-at self h) refl (look ! 15 refl) $
+      leaves ! (‵ (Views R L hs) ∷ []) locals bs (full locals _) tt $ check ! is $ done !)))
+      (λ over. let past = hop-past hs at (subst (λ (n : ℕ). n ≤ at) (rooms .0 .1) (nltb→le at (L .count) over)) in
+      calls ! (fmOf 𝓤 H (W .laws) 𝓣) (no-hop-callee 𝓤 H A) known tt tt tt refl (no-more !) (λ is. into ! (init ! 15 refl (typed noHop is)) $ returns ! (look ! 15 refl) $
+      leaves ! (‵ (Views R L hs) ∷ []) locals bs (holds _ ∷ holds _ ∷ holds _ ∷ holds _ ∷ holds _ ∷ empty ∷ empty ∷ empty ∷ []) tt $
+      check ! (subst (λ (x : Hop). Is R x (low noHop ∷ [])) past is) $ done !)))
 
 pub read-spec : {M : Type 1} → stated.statement M
 unfolding code.routine tablesOf
 read-spec 𝓤 H 𝓜 𝓖 𝓡 =
-    let W : Given 𝓤 H (𝓖 .A) = givenOf 𝓤 H 𝓜 𝓖 in
-    proves 𝓤 H 𝓜 𝓖 𝓡 code.env fn.ended stayed (goes-none-slice 𝓤 H (𝓖 .A) W 1 (0 ∷ []) tt (plain (λ _. R)) yes, (goes-none 𝓤 H (𝓖 .A) W 1 (λ _. usize) yes (λ κs x f. refl), tt))
-    (fn.clauses 𝓤 H (𝓖 .A) (𝓜 .mem) (𝓡 .run)) #read code.function (code.unfolded 𝓤 H 𝓜 𝓡) (walks 𝓤 H (𝓖 .A) W (𝓜 .mem) (𝓡 .run) (tablesAt 𝓤 H 𝓜 𝓖 𝓡 code.env)
-    (cited 𝓤 H (NoHop 𝓤 H (𝓖 .A) W (𝓜 .mem) (𝓡 .run)) 𝓜 𝓡 code.env #no-hop no-hop-def.routine code.calls-hops·no-hop (no-hop-thm.met 𝓤 H 𝓜 𝓖 𝓡)))
+    let A = 𝓖 .A in
+    proved-own 𝓤 H 𝓜 𝓖 𝓡 code.env (read-callee 𝓤 H A) tt (λ κs qs. refl) (λ κs qs a g. factI 𝓤 (Unit {0}) _ tt) (λ κs qs a g ws _ e. factI 𝓤 _ (emp 𝓤) refl)
+    #read code.function (code.unfolded 𝓤 H 𝓜 𝓡) (λ h fit rooms _. walk 𝓤 H A (givenOf 𝓤 H 𝓜 𝓖) (own-tables 𝓤 H 𝓜 𝓖 𝓡 code.env)
+    (cited 𝓤 H _ 𝓜 𝓡 code.env no-hop-def.name _ code.calls-hops·no-hop (no-hop-thm.met 𝓤 H 𝓜 𝓖 𝓡)) h fit rooms)

@@ -1,20 +1,23 @@
--- Past the end of the table the default is read.
+-- A set has at most 32 members, so the size fits.
 use borrow.Author.Needs.{needs}
-use Rattle.tables.proofs.Entries.{read-past}
+use mathlib.Core.Path.{ap, _∙_}
+use native.Mathlib.Omega.{arith}
+use Rattle.sets.specs.Sets.{size}
+use Rattle.sets.proofs.Laws.{size-below}
 use Rattle.routing.proofs.size.Statement.{statement}
 use Rattle.routing.proofs.size.Tie as tie
 
-mul-result : tie.Need-mul-result
-mul-result c = search needs
+route-requires : tie.Need-route-requires
+route-requires c κs = search needs
 
-element-copy-out-result : tie.Need-element-copy-out-result
-element-copy-out-result c = search needs
+size-requires : tie.Need-size-requires
+size-requires c κs = search needs
+
+cast-result : tie.Need-cast-result
+cast-result c = omega (arith, c .size .ensures, size-below (c .before .route .result))
 
 returns : tie.Need-returns
-returns c = search needs
-
-returns-2 : tie.Need-returns-2
-returns-2 c = read-past (c .before .args .t1 .sizes) 24 _ _ (search needs) (c .if1 .left)
+returns c = c .size .ensures ∙ ap size (c .before .route .ensures)
 
 pub size-spec : {M : Type 1} → statement M
-size-spec = tie.close (tie.spec mul-result element-copy-out-result returns returns-2)
+size-spec = tie.close (tie.spec route-requires size-requires cast-result returns)

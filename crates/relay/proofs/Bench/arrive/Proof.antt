@@ -1,27 +1,15 @@
--- `Bench::arrive` meets its contract: a walk of its MIR, by hand. The hop's record is read; functions by value say where the arrival starts and which hop is held; `set_state` holds it;
+-- `Bench::arrive` meets its contract: a walk of its MIR, by hand. The hop's record is read; functions by value say where the arrival starts and which hop is held; `set_state`
+-- holds it;
 -- `settle` is lent both lists; `finished` makes the answer.
-use mathlib.Core.Path.{sym, subst}
-use Rattle.walks.proofs.Prelude.{refl, ap, subst, ℕ, _<_, _^_, arith, [], _∷_, List, length, URA, fullShare, w64, Val, vunit, vint, vptr, SProp, ent, emp, fat, Memory, Routine, Heap, Tables}
-use Rattle.walks.proofs.Prelude.{WpFn, Atoms, Fun, givenOf, Given, ‵, ⋆, _$_, _∵_, !, qed, move, rewrite, done, look, init, lit, of-opd, and-then, no-more, returns, enter, alloc1, alloc0}
-use Rattle.walks.proofs.Prelude.{params1, pass1, pass0, sliceVal, place-is}
-use mir.Syntax.{w16, tyInt}
-use mir.Val.{WT}
-use sound.WpLaws.{fmOf}
-use contract.Monad.{factI}
-use contract.Running.{tablesOf}
-use types.Kit.{check}
-use denote.Builtin.{u16}
-use denote.Triple.Statement.{Triple}
-use denote.Triple.Table.{cited}
-use Rattle.walks.proofs.Walks.{holds, leaves}
-use Rattle.walks.proofs.Lending.{Loan, Holds}
-use Rattle.walks.proofs.Calling.{by-uint, value, lent, Handed, Fit, in-words, held, calls, contractOf}
-use Rattle.walks.proofs.Proving.{hold, Duty, Rooms, Done-at, Suffices, own-tables, proved-duty}
-use Rattle.walks.proofs.Locals.{var, ptr-of, len-of, slice-of, sets, into}
+use Rattle.walks.proofs.Prelude.{refl, sym, ap, subst, [], _∷_, List, ℕ, _<_, _^_, arith, length, URA, w16, w64, WT, vint, SProp, emp, Memory, Routine, Heap, Tables, Atoms, fmOf}
+use Rattle.walks.proofs.Prelude.{Fun, factI, givenOf, tablesOf, Given, ‵, _$_, !, check, done, look, init, lit, of-opd, no-more, returns, u16, place-is, Triple, cited, stored}
+use Rattle.walks.proofs.Prelude.{by-uint, Loan, Holds, Handed, Fit, contractOf, calls, Duty, Rooms, suited, Goes, starts, hold, Suffices, own-tables, proved-duty, var, ptr-of}
+use Rattle.walks.proofs.Prelude.{len-of, slice-of, _&_, equals, sets, into, full, leaves}
+use Rattle.walks.proofs.Calling.{value, lent}
 use Rattle.model.specs.declared.Hop.{Hop}
 use Rattle.model.specs.Network.{hopAt, setState}
-use Rattle.hops.proofs.Records.{R}
-use Rattle.hops.proofs.Called.{by-hop, read-shown-callee, set-state-callee}
+use Rattle.hops.proofs.Records.{R, by-hop}
+use Rattle.hops.proofs.Called.{read-shown-callee, set-state-callee}
 use Rattle.hops.proofs.read.Symbol as read-def
 use Rattle.hops.proofs.read.Met as read-thm
 use Rattle.hops.proofs.set_state.Symbol as set-state-def
@@ -51,13 +39,13 @@ use Rattle.relay.proofs.Bench.arrive.Code as code
 use Rattle.relay.proofs.Bench.arrive.Code.Mir.{locals}
 
 -- the contracts of the functions called
-record Known {M : Type 1} (𝓤 : URA M) (H : Heap 𝓤) (A : Atoms 𝓤) (mem : Memory → SProp 𝓤) (run : Routine → Fun 𝓤) (𝓣 : Tables 𝓤 H) : Type 2 where
+record Known {M : Type 1} (𝓤 : URA M) (H : Heap 𝓤) (A : Atoms 𝓤) (𝓣 : Tables 𝓤 H) : Type 2 where
   of-place-of : Triple 𝓤 (𝓣 .C place-of-def.name) (contractOf (place-of-callee 𝓤 H A))
-  of-read : Triple 𝓤 (𝓣 .C read-def.name) (contractOf (read-shown-callee 𝓤 H A mem run))
+  of-read : Triple 𝓤 (𝓣 .C read-def.name) (contractOf (read-shown-callee 𝓤 H A))
   of-received : Triple 𝓤 (𝓣 .C received-def.name) (contractOf (received-callee 𝓤 H A))
   of-hold-place : Triple 𝓤 (𝓣 .C hold-place-def.name) (contractOf (hold-place-callee 𝓤 H A))
-  of-set-state : Triple 𝓤 (𝓣 .C set-state-def.name) (contractOf (set-state-callee 𝓤 H A mem run))
-  of-settle : Triple 𝓤 (𝓣 .C settle-def.name) (contractOf (settle-callee 𝓤 H A mem run))
+  of-set-state : Triple 𝓤 (𝓣 .C set-state-def.name) (contractOf (set-state-callee 𝓤 H A))
+  of-settle : Triple 𝓤 (𝓣 .C settle-def.name) (contractOf (settle-callee 𝓤 H A))
   of-finished : Triple 𝓤 (𝓣 .C finished-def.name) (contractOf (finished-arrival-callee 𝓤 H A))
 
 module _ {M : Type 1} (𝓤 : URA M) (H : Heap 𝓤) (A : Atoms 𝓤) (mem : Memory → SProp 𝓤) (run : Routine → Fun 𝓤) where
@@ -81,9 +69,8 @@ module _ {M : Type 1} (𝓤 : URA M) (H : Heap 𝓤) (A : Atoms 𝓤) (mem : Mem
       factI 𝓤 _ (emp 𝓤) (subst (λ (left : List Hop × List ℕ). ArrivePromise b j hs book (arriveResult b j hs book) (left .0) (left .1))
       (λ i. (sym (ap (λ es. es .0) e) i, sym (ap (λ es. es .1 .0) e) i)) (arrive-promise b j hs book))
 
-  module _ (W : Given 𝓤 H A) (𝓣 : Tables 𝓤 H) (known : Known 𝓤 H A mem run 𝓣) where
-    walk : (h : Handed (duty .passes)) → Fit (duty .passes) h → Rooms (duty .passes) h
-        → ent 𝓤 (⋆ 𝓤 H A (held (duty .passes) h)) (WpFn 𝓤 H (𝓣 .C) (𝓣 .Λ) code.function (in-words (duty .passes) h) (Done-at duty h))
+  module _ (W : Given 𝓤 H A) (𝓣 : Tables 𝓤 H) (known : Known 𝓤 H A 𝓣) where
+    walk : (h : Handed (duty .passes)) → Fit (duty .passes) h → Rooms (duty .passes) h → Goes duty 𝓣 code.function h
     unfolding arriveStart arriveEnd arriveResult arriveHops arriveBook
     walk h fit rooms =
         let fm = fmOf 𝓤 H (W .laws) 𝓣 in
@@ -94,54 +81,32 @@ module _ {M : Type 1} (𝓤 : URA M) (H : Heap 𝓤) (A : Atoms 𝓤) (mem : Mem
         let book-fits : length book < 2 ^ 64 = subst (λ (k : ℕ). k < 2 ^ 64) (book-room .1) (book-room .0 .0) in
         let one-fits : 1 < 2 ^ 8 = omega arith in
         let start : Arrival = arriveStart b j hs book in let end : Settling = arriveEnd b j hs book in
-        let hops-slice : Val = sliceVal (L .block, L .byte) (L .count) in let book-slice : Val = sliceVal (N .block, N .byte) (N .count) in let hops-at : Val = vptr (L .block) (L .byte) in
         let hops-wt : WT (vint w64 (L .count)) = record { fits = hops-room .0 .0 } in let book-wt : WT (vint w64 (N .count)) = record { fits = book-room .0 .0 } in
-        qed W (‵ (Holds R L hs) ∷ ‵ (Holds u16 N book) ∷ []) ∵ enter ! (𝓣 .C) (𝓣 .Λ) code.function (in-words (duty .passes) h) _ $
-        alloc1 ! (λ l₀. alloc1 ! (λ l₁. alloc1 ! (λ l₂. alloc1 ! (λ l₃. alloc1 ! (λ l₄. alloc1 ! (λ l₅. alloc1 ! (λ l₆. alloc1 ! (λ l₇. alloc1 ! (λ l₈. alloc1 ! (λ l₉. alloc1 ! (λ l₁₀.
-        alloc1 ! (λ l₁₁. alloc1 ! (λ l₁₂. alloc1 ! (λ l₁₃. alloc1 ! (λ l₁₄. alloc1 ! (λ l₁₅. alloc1 ! (λ l₁₆. alloc1 ! (λ l₁₇. alloc1 ! (λ l₁₈. alloc1 ! (λ l₁₉. alloc1 ! (λ l₂₀. alloc0 ! $ params1 ! $
-        pass1 ! (init ! 38 refl (by-bench .lawful 𝓤 H A W .typed b _ b-is .0)) $ pass1 ! (init ! 36 refl (tt, record { fits = j-is .1 })) $
-        pass1 ! (init ! 34 refl (tt, (tt, (hops-wt, tt)))) $ pass1 ! (init ! 32 refl (tt, (tt, (book-wt, tt)))) $ pass0 ! $
+        starts W duty 𝓣 code.function h (suited W (duty .passes) h fit rooms) (λ bs.
         -- [hops; book; the locals, the last first]
-        move ! (42 ∷ 43 ∷ []) $
-        sets ! (of-opd ! (len-of ! 36 refl refl)) (init ! 32 refl (tt, hops-wt)) $
-        rewrite ! 32 (λ (k : ℕ). ‵ (fat fullShare (tyInt w64) l₅ 0 (vint w64 k))) (hops-room .1) refl $
-        sets ! (of-opd ! (len-of ! 34 refl refl)) (init ! 30 refl (tt, book-wt)) $
-        rewrite ! 30 (λ (k : ℕ). ‵ (fat fullShare (tyInt w64) l₆ 0 (vint w64 k))) (book-room .1) refl $
-        calls ! fm (place-of-callee 𝓤 H A) (known .of-place-of) (j, tt) (j-is, tt) tt refl (and-then ! (var ! 38 refl) (no-more !)) (λ place-is.
+        sets ! (equals (ap (vint w64) (hops-room .1)) (of-opd ! (len-of ! 36 refl refl))) (init ! 32 refl (tt, record { fits = hops-fit })) $
+        sets ! (equals (ap (vint w64) (book-room .1)) (of-opd ! (len-of ! 34 refl refl))) (init ! 30 refl (tt, record { fits = book-fits })) $
+        calls ! fm (place-of-callee 𝓤 H A) (known .of-place-of) (j, tt) (j-is, tt) tt refl (var ! 38 refl & no-more !) (λ place-is.
         into ! (init ! 28 refl (tt, record { fits = place-is .1 })) $
-        sets ! (ptr-of ! 36 refl refl) (init ! 18 refl (tt, tt)) $
-        sets ! (slice-of ! 18 36 refl refl refl) (init ! 16 refl (tt, (tt, (hops-wt, tt)))) $
-        calls ! fm (read-shown-callee 𝓤 H A mem run) (known .of-read) ((L, hs), (j, tt)) (place-is, tt) tt refl
-        (and-then ! (var ! 16 refl) (and-then ! (var ! 28 refl) (no-more !))) (λ hop-is.
-        into ! (init ! 26 refl (by-hop .lawful 𝓤 H A W .typed (hopAt hs j) _ hop-is .0)) $
-        calls ! fm (received-callee 𝓤 H A) (known .of-received) (b, (j, (hopAt hs j, (length hs, (length book, tt))))) (b-is, (j-is, (hop-is, ((refl, hops-fit), ((refl, book-fits), tt))))) tt refl
-        (and-then ! (var ! 40 refl) (and-then ! (var ! 38 refl) (and-then ! (var ! 26 refl) (and-then ! (var ! 32 refl) (and-then ! (var ! 30 refl) (no-more !)))))) (λ start-is.
-        into ! (init ! 24 refl (by-arrival .lawful 𝓤 H A W .typed start _ start-is .0)) $
-        calls ! fm (hold-place-callee 𝓤 H A) (known .of-hold-place) (start, tt) (start-is, tt) tt refl (and-then ! (var ! 24 refl) (no-more !)) (λ hold-is.
+        sets ! (ptr-of ! 36 refl refl) (init ! 18 refl (tt, tt)) $ sets ! (slice-of ! 18 36 refl refl refl) (init ! 16 refl (tt, (tt, (hops-wt, tt)))) $
+        calls ! fm (read-shown-callee 𝓤 H A) (known .of-read) ((L, hs), (j, tt)) (place-is, tt) tt refl (var ! 16 refl & var ! 28 refl & no-more !) (λ hop-is.
+        into ! (init ! 26 refl (stored W by-hop (hopAt hs j) hop-is .0)) $
+        calls ! fm (received-callee 𝓤 H A) (known .of-received) (b, (j, (hopAt hs j, (length hs, (length book, tt)))))
+        (b-is, (j-is, (hop-is, ((refl, hops-fit), ((refl, book-fits), tt))))) tt refl
+        (var ! 40 refl & var ! 38 refl & var ! 26 refl & var ! 32 refl & var ! 30 refl & no-more !) (λ start-is. into ! (init ! 24 refl (stored W by-arrival start start-is .0)) $
+        calls ! fm (hold-place-callee 𝓤 H A) (known .of-hold-place) (start, tt) (start-is, tt) tt refl (var ! 24 refl & no-more !) (λ hold-is.
         into ! (init ! 22 refl (tt, record { fits = hold-is .1 })) $
-        sets ! (ptr-of ! 36 refl refl) (init ! 12 refl (tt, tt)) $
-        sets ! (slice-of ! 12 36 refl refl refl) (init ! 10 refl (tt, (tt, (hops-wt, tt)))) $
-        calls ! fm (set-state-callee 𝓤 H A mem run) (known .of-set-state) ((L, hs), (start .hold, (1, tt))) (hold-is, ((refl, one-fits), tt)) tt refl
-        (and-then ! (var ! 10 refl) (and-then ! (var ! 22 refl) (and-then ! (lit ! tt) (no-more !)))) (λ _.
-        into ! (init ! 14 refl (tt, tt)) $
-        sets ! (ptr-of ! 36 refl refl) (init ! 8 refl (tt, tt)) $
-        sets ! (slice-of ! 8 36 refl refl refl) (init ! 6 refl (tt, (tt, (hops-wt, tt)))) $
-        sets ! (ptr-of ! 34 refl refl) (init ! 4 refl (tt, tt)) $
-        sets ! (slice-of ! 4 34 refl refl refl) (init ! 2 refl (tt, (tt, (book-wt, tt)))) $
-        calls ! fm (settle-callee 𝓤 H A mem run) (known .of-settle) (start, ((L, setState (start .hold) 1 hs), ((N, book), tt))) (start-is, tt) tt refl
-        (and-then ! (var ! 24 refl) (and-then ! (var ! 6 refl) (and-then ! (var ! 2 refl) (no-more !)))) (λ end-is.
-        into ! (init ! 20 refl (by-arrival .lawful 𝓤 H A W .typed (end .arrival) _ end-is .0)) $
-        calls ! fm (finished-arrival-callee 𝓤 H A) (known .of-finished) (b, (end .arrival, tt)) (b-is, (end-is, tt)) tt refl
-        (and-then ! (var ! 40 refl) (and-then ! (var ! 20 refl) (no-more !))) (λ r-is.
-        into ! (init ! 42 refl (by-arrived .lawful 𝓤 H A W .typed (arriveResult b j hs book) _ r-is .0)) $
-        returns ! (look ! 42 refl) $
-        leaves ! (‵ (Holds R L (arriveHops b j hs book)) ∷ ‵ (Holds u16 N (arriveBook b j hs book)) ∷ []) locals
-        (l₀ ∷ l₁ ∷ l₂ ∷ l₃ ∷ l₄ ∷ l₅ ∷ l₆ ∷ l₇ ∷ l₈ ∷ l₉ ∷ l₁₀ ∷ l₁₁ ∷ l₁₂ ∷ l₁₃ ∷ l₁₄ ∷ l₁₅ ∷ l₁₆ ∷ l₁₇ ∷ l₁₈ ∷ l₁₉ ∷ l₂₀ ∷ [])
-        (holds (by-arrived .word (arriveResult b j hs book)) ∷ holds (by-bench .word b) ∷ holds (vint w16 j) ∷ holds hops-slice ∷ holds book-slice ∷ holds (vint w64 (length hs))
-        ∷ holds (vint w64 (length book)) ∷ holds (vint w64 j) ∷ holds (by-hop .word (hopAt hs j)) ∷ holds (by-arrival .word start) ∷ holds (vint w64 (start .hold))
-        ∷ holds (by-arrival .word (end .arrival)) ∷ holds hops-at ∷ holds hops-slice ∷ holds vunit ∷ holds hops-at ∷ holds hops-slice ∷ holds hops-at ∷ holds hops-slice
-        ∷ holds (vptr (N .block) (N .byte)) ∷ holds book-slice ∷ []) [] tt $
-        check ! r-is $ done !))))))))))))))))))))))))))))
+        sets ! (ptr-of ! 36 refl refl) (init ! 12 refl (tt, tt)) $ sets ! (slice-of ! 12 36 refl refl refl) (init ! 10 refl (tt, (tt, (hops-wt, tt)))) $
+        calls ! fm (set-state-callee 𝓤 H A) (known .of-set-state) ((L, hs), (start .hold, (1, tt))) (hold-is, ((refl, one-fits), tt)) tt refl
+        (var ! 10 refl & var ! 22 refl & lit ! tt & no-more !) (λ _. into ! (init ! 14 refl (tt, tt)) $
+        sets ! (ptr-of ! 36 refl refl) (init ! 8 refl (tt, tt)) $ sets ! (slice-of ! 8 36 refl refl refl) (init ! 6 refl (tt, (tt, (hops-wt, tt)))) $
+        sets ! (ptr-of ! 34 refl refl) (init ! 4 refl (tt, tt)) $ sets ! (slice-of ! 4 34 refl refl refl) (init ! 2 refl (tt, (tt, (book-wt, tt)))) $
+        calls ! fm (settle-callee 𝓤 H A) (known .of-settle) (start, ((L, setState (start .hold) 1 hs), ((N, book), tt))) (start-is, tt) tt refl
+        (var ! 24 refl & var ! 6 refl & var ! 2 refl & no-more !) (λ end-is. into ! (init ! 20 refl (stored W by-arrival (end .arrival) end-is .0)) $
+        calls ! fm (finished-arrival-callee 𝓤 H A) (known .of-finished) (b, (end .arrival, tt)) (b-is, (end-is, tt)) tt refl (var ! 40 refl & var ! 20 refl & no-more !) (λ r-is.
+        into ! (init ! 42 refl (stored W by-arrived (arriveResult b j hs book) r-is .0)) $ returns ! (look ! 42 refl) $
+        leaves ! (‵ (Holds R L (arriveHops b j hs book)) ∷ ‵ (Holds u16 N (arriveBook b j hs book)) ∷ []) locals bs (full locals _) tt $
+        check ! r-is $ done !))))))))
 
 pub arrive-spec : {M : Type 1} → stated.statement M
 unfolding code.routine tablesOf
@@ -149,11 +114,11 @@ arrive-spec 𝓤 H 𝓜 𝓖 𝓡 =
     let A : Atoms 𝓤 = 𝓖 .A in let mem = 𝓜 .mem in let run = 𝓡 .run in let 𝓣 : Tables 𝓤 H = own-tables 𝓤 H 𝓜 𝓖 𝓡 code.env in
     proved-duty 𝓤 H 𝓜 𝓖 𝓡 code.env (duty 𝓤 H A mem run) tt (λ κs qs. refl) (λ κs qs a g. factI 𝓤 (Unit {0}) _ tt) (promised 𝓤 H A mem run)
     #arrive code.function (code.unfolded 𝓤 H 𝓜 𝓡) (λ h fit rooms _. walk 𝓤 H A mem run (givenOf 𝓤 H 𝓜 𝓖) 𝓣 record {
-      of-place-of = cited 𝓤 H (contractOf (place-of-callee 𝓤 H A)) 𝓜 𝓡 code.env place-of-def.name place-of-def.routine code.calls-relay·arrival·place-of (place-of-thm.met 𝓤 H 𝓜 𝓖 𝓡);
-      of-read = cited 𝓤 H (contractOf (read-shown-callee 𝓤 H A mem run)) 𝓜 𝓡 code.env read-def.name read-def.routine code.calls-hops·read (read-thm.met 𝓤 H 𝓜 𝓖 𝓡);
-      of-received = cited 𝓤 H (contractOf (received-callee 𝓤 H A)) 𝓜 𝓡 code.env received-def.name received-def.routine code.calls-relay·arrival·received (received-thm.met 𝓤 H 𝓜 𝓖 𝓡);
-      of-hold-place = cited 𝓤 H (contractOf (hold-place-callee 𝓤 H A)) 𝓜 𝓡 code.env hold-place-def.name hold-place-def.routine code.calls-relay·arrival·hold-place (hold-place-thm.met 𝓤 H 𝓜 𝓖 𝓡);
-      of-set-state = cited 𝓤 H (contractOf (set-state-callee 𝓤 H A mem run)) 𝓜 𝓡 code.env set-state-def.name set-state-def.routine code.calls-hops·set-state (set-state-thm.met 𝓤 H 𝓜 𝓖 𝓡);
-      of-settle = cited 𝓤 H (contractOf (settle-callee 𝓤 H A mem run)) 𝓜 𝓡 code.env settle-def.name settle-def.routine code.calls-relay·arrival·settle (settle-thm.met 𝓤 H 𝓜 𝓖 𝓡);
-      of-finished = cited 𝓤 H (contractOf (finished-arrival-callee 𝓤 H A)) 𝓜 𝓡 code.env finished-def.name finished-def.routine code.calls-relay·arrival·finished (finished-thm.met 𝓤 H 𝓜 𝓖 𝓡);
+      of-place-of = cited 𝓤 H _ 𝓜 𝓡 code.env place-of-def.name _ code.calls-relay·arrival·place-of (place-of-thm.met 𝓤 H 𝓜 𝓖 𝓡);
+      of-read = cited 𝓤 H _ 𝓜 𝓡 code.env read-def.name _ code.calls-hops·read (read-thm.met 𝓤 H 𝓜 𝓖 𝓡);
+      of-received = cited 𝓤 H _ 𝓜 𝓡 code.env received-def.name _ code.calls-relay·arrival·received (received-thm.met 𝓤 H 𝓜 𝓖 𝓡);
+      of-hold-place = cited 𝓤 H _ 𝓜 𝓡 code.env hold-place-def.name _ code.calls-relay·arrival·hold-place (hold-place-thm.met 𝓤 H 𝓜 𝓖 𝓡);
+      of-set-state = cited 𝓤 H _ 𝓜 𝓡 code.env set-state-def.name _ code.calls-hops·set-state (set-state-thm.met 𝓤 H 𝓜 𝓖 𝓡);
+      of-settle = cited 𝓤 H _ 𝓜 𝓡 code.env settle-def.name _ code.calls-relay·arrival·settle (settle-thm.met 𝓤 H 𝓜 𝓖 𝓡);
+      of-finished = cited 𝓤 H _ 𝓜 𝓡 code.env finished-def.name _ code.calls-relay·arrival·finished (finished-thm.met 𝓤 H 𝓜 𝓖 𝓡);
     } h fit rooms)

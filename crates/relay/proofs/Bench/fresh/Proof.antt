@@ -1,26 +1,15 @@
 -- `Bench::fresh` meets its contract: a walk of its MIR, by hand. Functions by value say whether a lent list is too short, and so how much of each is cleared;
 -- `clear` is lent the hops, and the book's own `clear` the book; `begun` makes the answer.
-use mathlib.Core.Path.{sym, subst}
-use Rattle.walks.proofs.Prelude.{refl, ap, subst, ℕ, _<_, _^_, arith, [], _∷_, List, length, URA, fullShare, w8, w64, Val, vunit, vbool, vint, vptr, SProp, ent, emp, fat, Memory, Routine, Heap}
-use Rattle.walks.proofs.Prelude.{Tables, WpFn, Atoms, Fun, givenOf, Given, ‵, ⋆, _$_, _∵_, !, qed, move, rewrite, done, look, init, store, lit, of-opd, and-then, no-more, returns, enter, alloc1}
-use Rattle.walks.proofs.Prelude.{alloc0, params1, pass1, pass0, u8, usize, sliceVal}
-use mir.Syntax.{w32, tyInt}
-use mir.Val.{WT}
-use sound.WpLaws.{fmOf}
-use contract.Monad.{factI}
-use contract.Running.{tablesOf}
-use types.Kit.{check}
+use Rattle.walks.proofs.Prelude.{refl, sym, ap, subst, [], _∷_, List, ℕ, _<_, _^_, arith, length, URA, w8, w64, WT, vint, SProp, emp, Memory, Routine, Heap, Tables, Atoms, fmOf}
+use Rattle.walks.proofs.Prelude.{Fun, factI, givenOf, tablesOf, Given, ‵, _$_, !, move, check, done, look, init, store, lit, of-opd, no-more, returns, u8, u16, usize, Triple}
+use Rattle.walks.proofs.Prelude.{cited, stored, by-uint, Loan, Holds, Handed, Fit, contractOf, calls, Duty, Rooms, suited, Goes, starts, hold, Suffices, own-tables, proved-duty}
+use Rattle.walks.proofs.Prelude.{var, ptr-of, len-of, slice-of, big-lit, _&_, equals, sets, into, full, leaves}
+use mir.Syntax.{w32}
 use denote.Array.{Array}
-use denote.Builtin.{u16, u32}
-use denote.Triple.Statement.{Triple}
-use denote.Triple.Table.{cited}
+use denote.Builtin.{u32}
 use mathlib.Core.Bool.{Bool, cond}
-use Rattle.walks.proofs.Walks.{holds, leaves}
-use Rattle.walks.proofs.Lending.{Loan, Holds}
-use Rattle.walks.proofs.Calling.{ByValue, by-uint, value, lent, Handed, Fit, in-words, held, calls, contractOf}
-use Rattle.walks.proofs.Values.{by-array, big-lit}
-use Rattle.walks.proofs.Proving.{hold, Duty, Rooms, Done-at, Suffices, own-tables, proved-duty}
-use Rattle.walks.proofs.Locals.{var, ptr-of, len-of, slice-of, sets, into}
+use Rattle.walks.proofs.Values.{ByValue, by-array}
+use Rattle.walks.proofs.Calling.{value, lent}
 use Rattle.model.specs.declared.Hop.{Hop}
 use Rattle.tables.proofs.book.clear.Symbol as book-clear-def
 use Rattle.tables.proofs.book.clear.Met as book-clear-thm
@@ -53,11 +42,11 @@ abbrev by-parents : ByValue (Array u8 32)
 by-parents = by-array u8 (by-uint w8) 32
 
 -- the contracts of the functions called
-record Known {M : Type 1} (𝓤 : URA M) (H : Heap 𝓤) (A : Atoms 𝓤) (mem : Memory → SProp 𝓤) (run : Routine → Fun 𝓤) (𝓣 : Tables 𝓤 H) : Type 2 where
+record Known {M : Type 1} (𝓤 : URA M) (H : Heap 𝓤) (A : Atoms 𝓤) (𝓣 : Tables 𝓤 H) : Type 2 where
   of-is-short : Triple 𝓤 (𝓣 .C is-short-def.name) (contractOf (is-short-callee 𝓤 H A))
   of-choose : Triple 𝓤 (𝓣 .C choose-def.name) (contractOf (choose-callee 𝓤 H A))
-  of-clear : Triple 𝓤 (𝓣 .C clear-def.name) (contractOf (clear-callee 𝓤 H A mem run))
-  of-book-clear : Triple 𝓤 (𝓣 .C book-clear-def.name) (contractOf (book-clear-callee 𝓤 H A mem run))
+  of-clear : Triple 𝓤 (𝓣 .C clear-def.name) (contractOf (clear-callee 𝓤 H A))
+  of-book-clear : Triple 𝓤 (𝓣 .C book-clear-def.name) (contractOf (book-clear-callee 𝓤 H A))
   of-begun : Triple 𝓤 (𝓣 .C begun-def.name) (contractOf (begun-callee 𝓤 H A))
 
 module _ {M : Type 1} (𝓤 : URA M) (H : Heap 𝓤) (A : Atoms 𝓤) (mem : Memory → SProp 𝓤) (run : Routine → Fun 𝓤) where
@@ -82,9 +71,8 @@ module _ {M : Type 1} (𝓤 : URA M) (H : Heap 𝓤) (A : Atoms 𝓤) (mem : Mem
       factI 𝓤 _ (emp 𝓤) (subst (λ (left : List Hop × List ℕ). FreshPromise n c gs ps hs book (duty .answer h) (left .0) (left .1))
       (λ i. (sym (ap (λ es. es .0) e) i, sym (ap (λ es. es .1 .0) e) i)) (fresh-promise n c gs ps hs book))
 
-  module _ (W : Given 𝓤 H A) (𝓣 : Tables 𝓤 H) (known : Known 𝓤 H A mem run 𝓣) where
-    walk : (h : Handed (duty .passes)) → Fit (duty .passes) h → Rooms (duty .passes) h
-        → ent 𝓤 (⋆ 𝓤 H A (held (duty .passes) h)) (WpFn 𝓤 H (𝓣 .C) (𝓣 .Λ) code.function (in-words (duty .passes) h) (Done-at duty h))
+  module _ (W : Given 𝓤 H A) (𝓣 : Tables 𝓤 H) (known : Known 𝓤 H A 𝓣) where
+    walk : (h : Handed (duty .passes)) → Fit (duty .passes) h → Rooms (duty .passes) h → Goes duty 𝓣 code.function h
     unfolding freshHops freshBook cleared
     walk h fit rooms =
         let fm = fmOf 𝓤 H (W .laws) 𝓣 in
@@ -96,51 +84,31 @@ module _ {M : Type 1} (𝓤 : URA M) (H : Heap 𝓤) (A : Atoms 𝓤) (mem : Mem
         let book-fits : length book < 2 ^ 64 = subst (λ (k : ℕ). k < 2 ^ 64) (book-room .1) (book-room .0 .0) in
         let zero-fits : 0 < 2 ^ 64 = omega arith in let hops-max : 2000 < 2 ^ 64 = omega arith in let book-max : 6400 < 2 ^ 64 = omega arith in
         let short : Bool = isShort (length hs) (length book) in let hops-used : ℕ = cond short 0 2000 in let book-used : ℕ = cond short 0 6400 in
-        let hops-slice : Val = sliceVal (L .block, L .byte) (L .count) in let book-slice : Val = sliceVal (N .block, N .byte) (N .count) in
         let hops-wt : WT (vint w64 (L .count)) = record { fits = hops-room .0 .0 } in let book-wt : WT (vint w64 (N .count)) = record { fits = book-room .0 .0 } in
-        qed W (‵ (Holds R L hs) ∷ ‵ (Holds u16 N book) ∷ []) ∵ enter ! (𝓣 .C) (𝓣 .Λ) code.function (in-words (duty .passes) h) _ $
-        alloc1 ! (λ l₀. alloc1 ! (λ l₁. alloc1 ! (λ l₂. alloc1 ! (λ l₃. alloc1 ! (λ l₄. alloc1 ! (λ l₅. alloc1 ! (λ l₆. alloc1 ! (λ l₇. alloc1 ! (λ l₈. alloc1 ! (λ l₉. alloc1 ! (λ l₁₀.
-        alloc1 ! (λ l₁₁. alloc1 ! (λ l₁₂. alloc1 ! (λ l₁₃. alloc1 ! (λ l₁₄. alloc1 ! (λ l₁₅. alloc1 ! (λ l₁₆. alloc0 ! $ params1 ! $
-        pass1 ! (init ! 30 refl (tt, record { fits = units-is .1 })) $ pass1 ! (init ! 28 refl (by-groups .lawful 𝓤 H A W .typed groups _ groups-is .0)) $
-        pass1 ! (init ! 26 refl (tt, record { fits = count-is .1 })) $ pass1 ! (init ! 24 refl (by-parents .lawful 𝓤 H A W .typed parents _ parents-is .0)) $
-        pass1 ! (init ! 22 refl (tt, (tt, (hops-wt, tt)))) $ pass1 ! (init ! 20 refl (tt, (tt, (book-wt, tt)))) $ pass0 ! $
+        starts W duty 𝓣 code.function h (suited W (duty .passes) h fit rooms) (λ bs.
         -- [hops; book; the locals, the last first]
-        move ! (34 ∷ 35 ∷ []) $
-        sets ! (of-opd ! (len-of ! 24 refl refl)) (init ! 20 refl (tt, hops-wt)) $
-        rewrite ! 20 (λ (k : ℕ). ‵ (fat fullShare (tyInt w64) l₇ 0 (vint w64 k))) (hops-room .1) refl $
-        sets ! (of-opd ! (len-of ! 22 refl refl)) (init ! 18 refl (tt, book-wt)) $
-        rewrite ! 18 (λ (k : ℕ). ‵ (fat fullShare (tyInt w64) l₈ 0 (vint w64 k))) (book-room .1) refl $
+        sets ! (equals (ap (vint w64) (hops-room .1)) (of-opd ! (len-of ! 24 refl refl))) (init ! 20 refl (tt, record { fits = hops-fit })) $
+        sets ! (equals (ap (vint w64) (book-room .1)) (of-opd ! (len-of ! 22 refl refl))) (init ! 18 refl (tt, record { fits = book-fits })) $
         calls ! fm (is-short-callee 𝓤 H A) (known .of-is-short) (length hs, (length book, tt)) ((refl, hops-fit), ((refl, book-fits), tt)) tt refl
-        (and-then ! (var ! 20 refl) (and-then ! (var ! 18 refl) (no-more !))) (λ short-is.
-        into ! (init ! 16 refl (tt, tt)) $
+        (var ! 20 refl & var ! 18 refl & no-more !) (λ short-is. into ! (init ! 16 refl (tt, tt)) $
         calls ! fm (choose-callee 𝓤 H A) (known .of-choose) (short, (0, (2000, tt))) (short-is, ((refl, zero-fits), ((refl, hops-max), tt))) tt refl
-        (and-then ! (var ! 16 refl) (and-then ! (lit ! tt) (and-then ! (big-lit ! hops-max) (no-more !)))) (λ hops-used-is.
-        into ! (init ! 14 refl (tt, record { fits = hops-used-is .1 })) $
+        (var ! 16 refl & lit ! tt & big-lit ! hops-max & no-more !) (λ hops-used-is. into ! (init ! 14 refl (tt, record { fits = hops-used-is .1 })) $
         calls ! fm (choose-callee 𝓤 H A) (known .of-choose) (short, (0, (6400, tt))) (short-is, ((refl, zero-fits), ((refl, book-max), tt))) tt refl
-        (and-then ! (var ! 16 refl) (and-then ! (lit ! tt) (and-then ! (big-lit ! book-max) (no-more !)))) (λ book-used-is.
-        into ! (init ! 12 refl (tt, record { fits = book-used-is .1 })) $
-        sets ! (ptr-of ! 24 refl refl) (init ! 8 refl (tt, tt)) $
-        sets ! (slice-of ! 8 24 refl refl refl) (init ! 6 refl (tt, (tt, (hops-wt, tt)))) $
-        calls ! fm (clear-callee 𝓤 H A mem run) (known .of-clear) ((L, hs), (hops-used, tt)) (hops-used-is, tt) tt refl
-        (and-then ! (var ! 6 refl) (and-then ! (var ! 14 refl) (no-more !))) (λ _.
+        (var ! 16 refl & lit ! tt & big-lit ! book-max & no-more !) (λ book-used-is. into ! (init ! 12 refl (tt, record { fits = book-used-is .1 })) $
+        sets ! (ptr-of ! 24 refl refl) (init ! 8 refl (tt, tt)) $ sets ! (slice-of ! 8 24 refl refl refl) (init ! 6 refl (tt, (tt, (hops-wt, tt)))) $
+        calls ! fm (clear-callee 𝓤 H A) (known .of-clear) ((L, hs), (hops-used, tt)) (hops-used-is, tt) tt refl (var ! 6 refl & var ! 14 refl & no-more !) (λ _.
         into ! (init ! 10 refl (tt, tt)) $
-        sets ! (ptr-of ! 22 refl refl) (init ! 4 refl (tt, tt)) $
-        sets ! (slice-of ! 4 22 refl refl refl) (init ! 2 refl (tt, (tt, (book-wt, tt)))) $
+        sets ! (ptr-of ! 22 refl refl) (init ! 4 refl (tt, tt)) $ sets ! (slice-of ! 4 22 refl refl refl) (init ! 2 refl (tt, (tt, (book-wt, tt)))) $
         -- the book stands first for its call
         move ! (1 ∷ []) $
-        calls ! fm (book-clear-callee 𝓤 H A mem run) (known .of-book-clear) ((N, book), (book-used, tt)) (book-used-is, tt) tt refl
-        (and-then ! (var ! 2 refl) (and-then ! (var ! 12 refl) (no-more !))) (λ _.
+        calls ! fm (book-clear-callee 𝓤 H A) (known .of-book-clear) ((N, book), (book-used, tt)) (book-used-is, tt) tt refl (var ! 2 refl & var ! 12 refl & no-more !) (λ _.
         into ! (store ! 10 refl (tt, tt)) $ move ! (1 ∷ []) $
-        calls ! fm (begun-callee 𝓤 H A) (known .of-begun) (short, (units, (groups, (count, (parents, tt))))) (short-is, (units-is, (groups-is, (count-is, (parents-is, tt))))) tt refl
-        (and-then ! (var ! 16 refl) (and-then ! (var ! 32 refl) (and-then ! (var ! 30 refl) (and-then ! (var ! 28 refl) (and-then ! (var ! 26 refl) (no-more !)))))) (λ r-is.
-        into ! (init ! 34 refl (by-fresh .lawful 𝓤 H A W .typed (freshResult short units count groups parents) _ r-is .0)) $
-        returns ! (look ! 34 refl) $
-        leaves ! (‵ (Holds R L (freshHops hs book)) ∷ ‵ (Holds u16 N (freshBook hs book)) ∷ []) locals
-        (l₀ ∷ l₁ ∷ l₂ ∷ l₃ ∷ l₄ ∷ l₅ ∷ l₆ ∷ l₇ ∷ l₈ ∷ l₉ ∷ l₁₀ ∷ l₁₁ ∷ l₁₂ ∷ l₁₃ ∷ l₁₄ ∷ l₁₅ ∷ l₁₆ ∷ [])
-        (holds (by-fresh .word (freshResult short units count groups parents)) ∷ holds (vint w64 units) ∷ holds (by-groups .word groups) ∷ holds (vint w64 count) ∷ holds (by-parents .word parents)
-        ∷ holds hops-slice ∷ holds book-slice ∷ holds (vint w64 (length hs)) ∷ holds (vint w64 (length book)) ∷ holds (vbool short) ∷ holds (vint w64 hops-used) ∷ holds (vint w64 book-used)
-        ∷ holds vunit ∷ holds (vptr (L .block) (L .byte)) ∷ holds hops-slice ∷ holds (vptr (N .block) (N .byte)) ∷ holds book-slice ∷ []) [] tt $
-        check ! r-is $ done !)))))))))))))))))))))))
+        calls ! fm (begun-callee 𝓤 H A) (known .of-begun) (short, (units, (groups, (count, (parents, tt)))))
+        (short-is, (units-is, (groups-is, (count-is, (parents-is, tt))))) tt refl
+        (var ! 16 refl & var ! 32 refl & var ! 30 refl & var ! 28 refl & var ! 26 refl & no-more !) (λ r-is.
+        into ! (init ! 34 refl (stored W by-fresh (freshResult short units count groups parents) r-is .0)) $ returns ! (look ! 34 refl) $
+        leaves ! (‵ (Holds R L (freshHops hs book)) ∷ ‵ (Holds u16 N (freshBook hs book)) ∷ []) locals bs (full locals _) tt $
+        check ! r-is $ done !)))))))
 
 pub fresh-spec : {M : Type 1} → stated.statement M
 unfolding code.routine tablesOf
@@ -148,9 +116,9 @@ fresh-spec 𝓤 H 𝓜 𝓖 𝓡 =
     let A : Atoms 𝓤 = 𝓖 .A in let mem = 𝓜 .mem in let run = 𝓡 .run in let 𝓣 : Tables 𝓤 H = own-tables 𝓤 H 𝓜 𝓖 𝓡 code.env in
     proved-duty 𝓤 H 𝓜 𝓖 𝓡 code.env (duty 𝓤 H A mem run) tt (λ κs qs. refl) (λ κs qs a g. factI 𝓤 (Unit {0}) _ tt) (promised 𝓤 H A mem run)
     #fresh code.function (code.unfolded 𝓤 H 𝓜 𝓡) (λ h fit rooms _. walk 𝓤 H A mem run (givenOf 𝓤 H 𝓜 𝓖) 𝓣 record {
-      of-is-short = cited 𝓤 H (contractOf (is-short-callee 𝓤 H A)) 𝓜 𝓡 code.env is-short-def.name is-short-def.routine code.calls-relay·is-short (is-short-thm.met 𝓤 H 𝓜 𝓖 𝓡);
-      of-choose = cited 𝓤 H (contractOf (choose-callee 𝓤 H A)) 𝓜 𝓡 code.env choose-def.name choose-def.routine code.calls-relay·arrival·choose (choose-thm.met 𝓤 H 𝓜 𝓖 𝓡);
-      of-clear = cited 𝓤 H (contractOf (clear-callee 𝓤 H A mem run)) 𝓜 𝓡 code.env clear-def.name clear-def.routine code.calls-hops·clear (clear-thm.met 𝓤 H 𝓜 𝓖 𝓡);
-      of-book-clear = cited 𝓤 H (contractOf (book-clear-callee 𝓤 H A mem run)) 𝓜 𝓡 code.env book-clear-def.name book-clear-def.routine code.calls-tables·book·clear (book-clear-thm.met 𝓤 H 𝓜 𝓖 𝓡);
-      of-begun = cited 𝓤 H (contractOf (begun-callee 𝓤 H A)) 𝓜 𝓡 code.env begun-def.name begun-def.routine code.calls-relay·begun (begun-thm.met 𝓤 H 𝓜 𝓖 𝓡);
+      of-is-short = cited 𝓤 H _ 𝓜 𝓡 code.env is-short-def.name _ code.calls-relay·is-short (is-short-thm.met 𝓤 H 𝓜 𝓖 𝓡);
+      of-choose = cited 𝓤 H _ 𝓜 𝓡 code.env choose-def.name _ code.calls-relay·arrival·choose (choose-thm.met 𝓤 H 𝓜 𝓖 𝓡);
+      of-clear = cited 𝓤 H _ 𝓜 𝓡 code.env clear-def.name _ code.calls-hops·clear (clear-thm.met 𝓤 H 𝓜 𝓖 𝓡);
+      of-book-clear = cited 𝓤 H _ 𝓜 𝓡 code.env book-clear-def.name _ code.calls-tables·book·clear (book-clear-thm.met 𝓤 H 𝓜 𝓖 𝓡);
+      of-begun = cited 𝓤 H _ 𝓜 𝓡 code.env begun-def.name _ code.calls-relay·begun (begun-thm.met 𝓤 H 𝓜 𝓖 𝓡);
     } h fit rooms)

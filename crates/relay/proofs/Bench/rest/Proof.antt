@@ -1,22 +1,10 @@
 -- `Bench::rest` meets its contract: a walk of its MIR, by hand. The count of the hops is in the slice's machine value; `rested` makes the answer of it.
-use Rattle.walks.proofs.Prelude.{refl, subst, ℕ, _<_, _^_, [], _∷_, List, length, URA, fullShare, w64, vint, SProp, ent, emp, fat, Memory, Routine, Heap, Tables, WpFn, Atoms, Fun, givenOf, Given}
-use Rattle.walks.proofs.Prelude.{‵, ⋆, _$_, _∵_, !, qed, move, rewrite, done, look, init, of-opd, and-then, no-more, returns, enter, alloc1, alloc0, params1, pass1, pass0, sliceVal}
-use mir.Syntax.{tyInt}
-use mir.Val.{WT}
-use sound.WpLaws.{fmOf}
-use contract.Monad.{factI}
-use contract.Running.{tablesOf}
-use types.Kit.{check}
-use denote.Triple.Statement.{Triple}
-use denote.Triple.Table.{cited}
-use Rattle.walks.proofs.Walks.{holds, leaves}
-use Rattle.walks.proofs.Lending.{Loan, Views}
-use Rattle.walks.proofs.Calling.{value, relayed, Handed, Fit, in-words, held, calls, contractOf}
-use Rattle.walks.proofs.Proving.{hold, Duty, Rooms, Done-at, Suffices, own-tables, proved-duty}
-use Rattle.walks.proofs.Locals.{var, len-of, sets, into}
+use Rattle.walks.proofs.Prelude.{refl, ap, subst, [], _∷_, List, ℕ, _<_, _^_, length, URA, w64, WT, vint, SProp, emp, Memory, Routine, Heap, Tables, Atoms, fmOf, Fun, factI}
+use Rattle.walks.proofs.Prelude.{givenOf, tablesOf, Given, ‵, _$_, !, check, done, look, init, of-opd, no-more, returns, Triple, cited, stored, Loan, Views, Handed, Fit}
+use Rattle.walks.proofs.Prelude.{contractOf, calls, Duty, Rooms, suited, Goes, starts, hold, Suffices, own-tables, proved-duty, var, len-of, _&_, equals, sets, into, full, leaves}
+use Rattle.walks.proofs.Calling.{value, relayed}
 use Rattle.model.specs.declared.Hop.{Hop}
-use Rattle.hops.proofs.Records.{R}
-use Rattle.hops.proofs.Called.{by-hop}
+use Rattle.hops.proofs.Records.{R, by-hop}
 use Rattle.relay.proofs.Promised.{rest-promise}
 use Rattle.relay.specs.Machine.{restReply}
 use Rattle.relay.specs.declared.Bench.{Bench}
@@ -51,26 +39,18 @@ module _ {M : Type 1} (𝓤 : URA M) (H : Heap 𝓤) (A : Atoms 𝓤) (mem : Mem
       factI 𝓤 _ (emp 𝓤) (rest-promise (h .0) (h .1 .0 .1))
 
   module _ (W : Given 𝓤 H A) (𝓣 : Tables 𝓤 H) (of-rested : Triple 𝓤 (𝓣 .C rested-def.name) (contractOf (rested-callee 𝓤 H A))) where
-    walk : (h : Handed (duty .passes)) → Fit (duty .passes) h → Rooms (duty .passes) h
-        → ent 𝓤 (⋆ 𝓤 H A (held (duty .passes) h)) (WpFn 𝓤 H (𝓣 .C) (𝓣 .Λ) code.function (in-words (duty .passes) h) (Done-at duty h))
+    walk : (h : Handed (duty .passes)) → Fit (duty .passes) h → Rooms (duty .passes) h → Goes duty 𝓣 code.function h
     walk h fit rooms =
         let b : Bench = h .0 in let L : Loan = h .1 .0 .0 in let hs : List Hop = h .1 .0 .1 in
         let n-fits : length hs < 2 ^ 64 = subst (λ (n : ℕ). n < 2 ^ 64) (rooms .0 .1) (rooms .0 .0 .0) in
         let room : WT (vint w64 (L .count)) = record { fits = rooms .0 .0 .0 } in
-        qed W (‵ (Views R L hs) ∷ []) ∵ enter ! (𝓣 .C) (𝓣 .Λ) code.function (in-words (duty .passes) h) _ $
-        alloc1 ! (λ l₀. alloc1 ! (λ l₁. alloc1 ! (λ l₂. alloc1 ! (λ l₃. alloc0 ! $ params1 ! $
-        pass1 ! (init ! 4 refl (by-bench .lawful 𝓤 H A W .typed b _ (fit .0) .0)) $ pass1 ! (init ! 2 refl (tt, (tt, (room, tt)))) $ pass0 ! $
+        starts W duty 𝓣 code.function h (suited W (duty .passes) h fit rooms) (λ bs.
         -- [hops; the locals, the last first]
-        move ! (8 ∷ []) $
-        sets ! (of-opd ! (len-of ! 3 refl refl)) (init ! 1 refl (tt, room)) $
-        rewrite ! 1 (λ (n : ℕ). ‵ (fat fullShare (tyInt w64) l₃ 0 (vint w64 n))) (rooms .0 .1) refl $
+        sets ! (equals (ap (vint w64) (rooms .0 .1)) (of-opd ! (len-of ! 3 refl refl))) (init ! 1 refl (tt, record { fits = n-fits })) $
         calls ! (fmOf 𝓤 H (W .laws) 𝓣) (rested-callee 𝓤 H A) of-rested (b, (length hs, tt)) (fit .0, ((refl, n-fits), tt)) tt refl
-        (and-then ! (var ! 5 refl) (and-then ! (var ! 1 refl) (no-more !))) (λ r-is.
-        into ! (init ! 7 refl (by-rest-reply .lawful 𝓤 H A W .typed (restReply b (length hs)) _ r-is .0)) $
-        returns ! (look ! 7 refl) $
-        leaves ! (‵ (Views R L hs) ∷ []) locals (l₀ ∷ l₁ ∷ l₂ ∷ l₃ ∷ [])
-        (holds (by-rest-reply .word (restReply b (length hs))) ∷ holds (by-bench .word b) ∷ holds (sliceVal (L .block, L .byte) (L .count)) ∷ holds (vint w64 (length hs)) ∷ []) [] tt $
-        check ! r-is $ done !)))))
+        (var ! 5 refl & var ! 1 refl & no-more !) (λ r-is. into ! (init ! 7 refl (stored W by-rest-reply (restReply b (length hs)) r-is .0)) $ returns ! (look ! 7 refl) $
+        leaves ! (‵ (Views R L hs) ∷ []) locals bs (full locals _) tt $
+        check ! r-is $ done !))
 
 pub rest-spec : {M : Type 1} → stated.statement M
 unfolding code.routine tablesOf
@@ -78,4 +58,4 @@ rest-spec 𝓤 H 𝓜 𝓖 𝓡 =
     let A : Atoms 𝓤 = 𝓖 .A in let 𝓣 : Tables 𝓤 H = own-tables 𝓤 H 𝓜 𝓖 𝓡 code.env in
     proved-duty 𝓤 H 𝓜 𝓖 𝓡 code.env (duty 𝓤 H A (𝓜 .mem) (𝓡 .run)) tt (λ κs qs. refl) (λ κs qs a g. factI 𝓤 (Unit {0}) _ tt) (promised 𝓤 H A (𝓜 .mem) (𝓡 .run))
     #rest code.function (code.unfolded 𝓤 H 𝓜 𝓡) (λ h fit rooms _. walk 𝓤 H A (𝓜 .mem) (𝓡 .run) (givenOf 𝓤 H 𝓜 𝓖) 𝓣
-    (cited 𝓤 H (contractOf (rested-callee 𝓤 H A)) 𝓜 𝓡 code.env rested-def.name rested-def.routine code.calls-relay·rested (rested-thm.met 𝓤 H 𝓜 𝓖 𝓡)) h fit rooms)
+    (cited 𝓤 H _ 𝓜 𝓡 code.env rested-def.name _ code.calls-relay·rested (rested-thm.met 𝓤 H 𝓜 𝓖 𝓡)) h fit rooms)

@@ -3,7 +3,7 @@ use borrow.Author.Needs.{needs}
 use mathlib.Core.Path.{_≡_, ap, _∙_}
 use lib.ListN.{getD, set}
 use Rattle.tables.specs.Values.{byte, rowOf, added, recorded}
-use Rattle.relay.specs.Machine.{recordedBench}
+use Rattle.relay.specs.Machine.{sizeAt, recordedBench}
 use Rattle.relay.proofs.sending.recorded.Statement.{statement}
 use Rattle.relay.proofs.sending.recorded.Tie as tie
 
@@ -38,7 +38,7 @@ plus-requires : tie.Need-plus-requires
 plus-requires c κs = search needs
 
 returns : tie.Need-returns
-unfolding recordedBench
+unfolding recordedBench sizeAt
 returns c =
     let kept = c .before .before .before .before in
     let rows = kept .before .before .before in
@@ -48,7 +48,7 @@ returns c =
     let g = start .args .group in
     let row : rows .before .added .result ≡ added (rowOf (b .counts .grid) s) (getD (b .topology .primaries) g 0) 1 =
     rw (rows .before .added .ensures, rows .before .before .row .ensures, rows .before .before .before .before .primary .ensures) in
-    let messages : kept .recorded .result ≡ recorded (b .messages) (byte s) (byte g) (start .args .word) (getD (b .topology .sizes) g 0) =
+    let messages : kept .recorded .result ≡ recorded (b .messages) (byte s) (byte g) (start .args .word) (sizeAt b g) =
     rw (
       kept .recorded .ensures,
       kept .before .byte2 .ensures,

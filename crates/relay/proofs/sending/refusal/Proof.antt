@@ -2,7 +2,7 @@
 use borrow.Author.Needs.{needs}
 use borrow.Author.Tests.{lt-ltb, le-ltb, le-leb, lt-leb}
 use Rattle.model.specs.Rules.{refuse}
-use Rattle.relay.specs.Machine.{sendRefusal}
+use Rattle.relay.specs.Machine.{sizeAt, sendRefusal}
 use Rattle.relay.proofs.sending.refusal.Statement.{statement}
 use Rattle.relay.proofs.sending.refusal.Tie as tie
 
@@ -42,7 +42,7 @@ cast-if5 : tie.Need-cast-if5
 cast-if5 c = search needs
 
 returns-5 : tie.Need-returns-5
-unfolding sendRefusal refuse
+unfolding sendRefusal sizeAt refuse
 returns-5 c =
     let fourth = c .before .before .before in
     let third = fourth .before .before .before in
@@ -57,7 +57,7 @@ returns-5 c =
     )
 
 returns-6 : tie.Need-returns-6
-unfolding sendRefusal refuse
+unfolding sendRefusal sizeAt refuse
 returns-6 c =
     let fourth = c .before .before .before in
     let third = fourth .before .before .before in

@@ -1,6 +1,6 @@
 -- Demand 3 over lists of calls chained by the promises in their contracts; that there are such lists; P8's. docs/PROOFS.md leads here.
 -- Assumes nothing.
-use mathlib.Core.Path.{_≡_, refl, sym, ap, _∙_}
+use mathlib.Core.Path.{_≡_, refl, sym, ap, subst, _∙_}
 use mathlib.Core.Bool.{true}
 use mathlib.Core.List.{List, [], _∷_, _++_, append-nil, map, map-append}
 use Prim.Native.Nat.{ℕ, _+_, _≤_}
@@ -17,10 +17,10 @@ use Rattle.model.specs.Network.{Plan, Network, noHop, hopsOf, logOf, sumOf}
 use Rattle.model.specs.Rules.{Answer, Sent, Held, Taken, allTaken, quiescent}
 use Rattle.model.specs.Calls.{Call, Send, Arrive, Answered, answered, run, networkOf, historyOf, LogAnswer, log, Rest, rest}
 use Rattle.model.specs.Demand3.{Planned, built, checked, Demand3}
-use Rattle.model.specs.Claims.{Limits, callOf}
+use Rattle.model.specs.Claims.{Limits, callOf, Reading}
 use Rattle.model.proofs.Runs.{run-calls}
 use Rattle.model.proofs.Replies.{refuse-either, rest-answers}
-use Rattle.model.proofs.Theorems.{demand-3, limits}
+use Rattle.model.proofs.Theorems.{demand-3, reading, limits}
 use Rattle.model.proofs.Benches.{bench-C, C-planned, eight, answered-with, answers, benches}
 use Rattle.relay.specs.declared.Bench.{Bench}
 use Rattle.relay.specs.declared.replies.RestReply.{RestReply}
@@ -81,6 +81,14 @@ module _ (P : Plan) (planned : Planned P) where
   pub calls-demand-3 : {past : List Answered} {b : Bench} {hops : List Hop} {book : List ℕ} → Called P past b hops book
       → CallsDemand3 P past b hops book
   calls-demand-3 C = reached-demand-3 (called-reached P planned C)
+
+  -- the messages sent, as read off the answers, are numbered 1, 2, .. in their order
+  pub calls-reading : {past : List Answered} {b : Bench} {hops : List Hop} {book : List ℕ} → Called P past b hops book
+      → Reading (map callOf past) past
+  calls-reading C =
+      let R = called-reached P planned C in
+      subst (λ (l : List Answered). Reading (map callOf l) l) (sym (R .history))
+      (record { calls = refl; numbers = reading P planned (R .calls) .numbers })
 
   pub calls-rest : {past : List Answered} {b : Bench} {hops : List Hop} {book : List ℕ} → Called P past b hops book → RestSays b hops
   calls-rest C = reached-rest-says (called-reached P planned C)

@@ -10,22 +10,17 @@ use lib.Dec.{T, ltb, eqb, ltb→lt}
 use borrow.Author.Tests.{lt-ltb}
 use Rattle.sets.proofs.Bools.{cond-true, cond-false}
 use Rattle.model.specs.declared.Hop.{Hop}
-use Rattle.model.specs.Network.{hopAt, isPair, isHeld}
-use Rattle.hops.specs.Access.{nextOfPair}
+use Rattle.model.specs.Network.{hopAt, isHeld}
 use Rattle.hops.proofs.Places.{came-true, came-false}
 use Rattle.relay.specs.declared.arrival.Arrival.{Arrival}
 use Rattle.relay.specs.Machine.{afterCopy, moveTo, takeArrival, takeHops, takeBook, searchFrom, searchEnd, movedTo, nextPlace, nextArrival, isGoing, Settling, settled}
+use Rattle.relay.proofs.Searches.{search-first}
 
 -- ---- a turn goes on to a later place
 
 least : (b : Bool) (m x y : ℕ) → m ≤ x → m ≤ y → m ≤ cond b x y
 least true m x y p q = p
 least false m x y p q = q
-
-next-from : (k s r i : ℕ) (hs : List Hop) → i ≤ nextOfPair k s r i hs
-unfolding nextOfPair
-next-from zero s r i hs = omega arith
-next-from (suc k) s r i hs = least (isPair s r (hopAt hs i)) i i _ (omega arith) (omega (arith, next-from k s r (suc i) hs))
 
 going : (a : Arrival) → T (isGoing a) → a .at < a .end
 unfolding isGoing
@@ -38,7 +33,7 @@ search-later a l = cond-true (ltb (a .at) (a .end)) (suc (a .at)) (a .end) (lt-l
 next-later : (a : Arrival) (hs : List Hop) → a .at < a .end → suc (a .at) ≤ nextArrival a hs .at
 unfolding nextArrival movedTo moveTo nextPlace
 next-later a hs l =
-    let found : suc (a .at) ≤ nextPlace a hs = omega (arith, search-later a l, next-from (searchEnd a - searchFrom a) (a .sender) (a .receiver) (searchFrom a) hs) in
+    let found : suc (a .at) ≤ nextPlace a hs = omega (arith, search-later a l, search-first (searchEnd a - searchFrom a) (a .sender) (a .receiver) (searchFrom a) hs .from) in
     least (eqb (a .left) 0) (suc (a .at)) (a .end) _ l (least (isHeld (hopAt hs (nextPlace a hs))) (suc (a .at)) (nextPlace a hs) (a .end) found l)
 
 next-end : (a : Arrival) (hs : List Hop) → nextArrival a hs .end ≡ a .end

@@ -102,14 +102,22 @@ pub fn of(units: usize, groups: [u32; 24], count: usize, parents: [u8; 32]) -> T
     }
 }
 
+// The set at a place of a table; the empty set where there is none.
+fn entry(table: [u32; 24], g: usize) -> u32
+    ensures { λ r. ⌜ r ≡ getD table g 0 ⌝ }
+{
+    if g < 24 {
+        return table[g];
+    }
+    0
+}
+
 // The group at a place; the empty set where there is none.
 pub fn group(topology: Topology, g: usize) -> u32
     ensures { λ r. ⌜ r ≡ getD (topology .groups) g 0 ⌝ }
 {
-    if g < 24 {
-        return topology.groups[g];
-    }
-    0
+    let groups = topology.groups;
+    entry(groups, g)
 }
 
 // Its primary.
@@ -126,10 +134,8 @@ pub fn primary(topology: Topology, g: usize) -> u8
 pub fn route(topology: Topology, g: usize) -> u32
     ensures { λ r. ⌜ r ≡ getD (topology .routes) g 0 ⌝ }
 {
-    if g < 24 {
-        return topology.routes[g];
-    }
-    0
+    let routes = topology.routes;
+    entry(routes, g)
 }
 
 // Its route's size (document 01: way size).

@@ -13,7 +13,8 @@ use denote.RattleType.{RattleType}
 use denote.Struct.Laws as LL
 use Rattle.model.specs.Network.{noHop, hopAt, setState, isPair}
 use Rattle.hops.specs.declared.forwarding.Forwarding.{Forwarding}
-use Rattle.hops.specs.Access.{cleared, nextOfPair, isLeft, nextHop, afterNext, forwarded, forwardedHops}
+use Rattle.tables.specs.Values.{filled}
+use Rattle.hops.specs.Access.{nextOfPair, isLeft, nextHop, afterNext, forwarded, forwardedHops}
 use Rattle.hops.proofs.forwarding.Forwarding as T
 use Rattle.hops.proofs.forwarding.Forwarding.Laws as T′
 use Rattle.hops.proofs.Records.{R, by-hop}
@@ -75,7 +76,7 @@ module _ {M : Type 1} (𝓤 : URA M) (H : Heap 𝓤) (A : Atoms 𝓤) where
   append-callee = stating 𝓤 H A 1 (lent 0 tt R ∷ value usize (by-uint w64) ∷ value R by-hop ∷ []) unit by-unit the-list (λ d. tt) (λ d. (set (d .0) (d .1 .0) (d .1 .1 .0), tt))
 
   abbrev pub clear-callee : Callee 𝓤 H A
-  clear-callee = stating 𝓤 H A 1 (lent 0 tt R ∷ value usize (by-uint w64) ∷ []) unit by-unit the-list (λ d. tt) (λ d. (cleared (d .1 .0) (d .0), tt))
+  clear-callee = stating 𝓤 H A 1 (lent 0 tt R ∷ value usize (by-uint w64) ∷ []) unit by-unit the-list (λ d. tt) (λ d. (filled (d .1 .0) noHop (d .0), tt))
 
   abbrev pub forward-callee : Callee 𝓤 H A
   forward-callee =

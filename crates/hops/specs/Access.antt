@@ -5,14 +5,10 @@ use mathlib.Core.List.{List}
 use lib.Dec.{eqb}
 use lib.ListN.{getD, set}
 use Rattle.sets.specs.Sets.{lowest, excluding}
-use Rattle.tables.specs.Values.{plus, added, filled}
+use Rattle.tables.specs.Values.{plus, added}
 use Rattle.model.specs.declared.Hop.{Hop}
-use Rattle.model.specs.Network.{noHop, hopAt, isPair}
+use Rattle.model.specs.Network.{hopAt, isPair}
 use Rattle.hops.specs.declared.forwarding.Forwarding.{Forwarding}
-
--- the first n places hold zeros
-unfoldable pub cleared : ℕ → List Hop → List Hop
-cleared n hs = filled n noHop hs
 
 -- the first place from i on of a hop from s to r, among k places; i + k where there is none
 unfoldable pub nextOfPair : ℕ → ℕ → ℕ → ℕ → List Hop → ℕ

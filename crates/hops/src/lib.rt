@@ -8,7 +8,8 @@ ghost use mathlib.Core.Path.{_≡_};
 ghost use Prim.Native.Nat.{_-_};
 ghost use lib.ListN.{set};
 ghost use Rattle.model.specs.Network.{hopAt, setState, isPair, noHop as zeros};
-ghost use Rattle.hops.specs.Access.{cleared, nextOfPair, forwarded, forwardedHops};
+ghost use Rattle.tables.specs.Values.{filled};
+ghost use Rattle.hops.specs.Access.{nextOfPair, forwarded, forwardedHops};
 
 // The record at a place.
 pub fn read(hops: &[model::Hop], at: usize) -> model::Hop
@@ -40,7 +41,7 @@ pub fn append(hops: &mut [model::Hop], at: usize, hop: model::Hop)
 
 // The first `count` places get zeros.
 pub fn clear(hops: &mut [model::Hop], count: usize)
-    ensures { λ _. ⌜ now (hops .exit) ≡ cleared count (now (hops .entry)) ⌝ }
+    ensures { λ _. ⌜ now (hops .exit) ≡ filled count zeros (now (hops .entry)) ⌝ }
 {
     let mut at = 0;
     while at < count {
@@ -50,7 +51,7 @@ pub fn clear(hops: &mut [model::Hop], count: usize)
     }
 }
 
-// The first place from `from` on, and before `end`, of a hop from a sender to a receiver; `end` where there is none.
+// The first place from `from` on, and before `end`, of a hop from a sender to a receiver; where there is none, `end`, or `from` if that is past it.
 pub fn next_of_pair(hops: &[model::Hop], sender: u8, receiver: u8, from: usize, end: usize) -> usize
     ensures { λ r. ⌜ r ≡ nextOfPair (end - from) sender receiver from (now (hops .entry)) ⌝ }
 {

@@ -16,7 +16,7 @@ use Rattle.sets.proofs.Bools.{either, clash, and-left, and-right, and-both, not
 use Rattle.model.specs.declared.Hop.{Hop}
 use Rattle.model.specs.declared.Message.{Message}
 use Rattle.model.specs.Network.{Plan, routeSizeOf, Network, network, fresh, hopAt, hopsOf, isOut, isHeld, isTaken, withState, setState}
-use Rattle.model.specs.Network.{isPair, sumOf, bit, countHops, pairCount, newHop, made}
+use Rattle.model.specs.Network.{isPair, sumOf, bit, countHops, pairCount, takenOf, pairTaken, newHop, made}
 use Rattle.model.specs.Rules.{Outcome, outcome, answerOf, leftOf, refuse, refused, routeTotal, send, push, rising, forward, takeHop}
 use Rattle.model.specs.Rules.{lowestUntaken, isHeldAt, nextHeld, settle, hold, arrive}
 use Rattle.model.specs.Calls.{Call, Send, Arrive, call, answered, Run, ran, recorded, step, runFrom, run, networkOf, historyOf}
@@ -167,17 +167,9 @@ idle-place s r hs num idle = by-cases (decLt (nextHeld s r hs) (length hs))
 
 -- ---- counts
 
--- the hop goes from s to r and is taken
-unfoldable pub takenOf : ℕ → ℕ → Hop → Bool
-takenOf s r h = isPair s r h && isTaken h
-
 untaken-of : (s r : ℕ) (h : Hop) → isTaken h ≡ false → takenOf s r h ≡ false
 unfolding takenOf
 untaken-of s r h t = ap (λ (x : Bool). isPair s r h && x) t ∙ and-false (isPair s r h)
-
--- how many hops from s to r are taken
-unfoldable pub pairTaken : ℕ → ℕ → List Hop → ℕ
-pairTaken s r hs = countHops (takenOf s r) hs
 
 bit-both : (a b : Bool) → bit (a && b) ≤ bit a
 unfolding bit

@@ -106,6 +106,13 @@ countHops test hs = sumOf (λ h. bit (test h)) hs
 unfoldable pub pairCount : ℕ → ℕ → List Hop → ℕ
 pairCount s r hs = countHops (isPair s r) hs
 
+-- how many of them were taken; no rule asks for it, but the relay counts them too
+unfoldable pub takenOf : ℕ → ℕ → Hop → Bool
+takenOf s r h = isPair s r h && isTaken h
+
+unfoldable pub pairTaken : ℕ → ℕ → List Hop → ℕ
+pairTaken s r hs = countHops (takenOf s r) hs
+
 -- one hop more, out: message m from s to r, its sequence number the pair's count plus one
 unfoldable pub newHop : ℕ → ℕ → ℕ → List Hop → Hop
 newHop s r m hs = record { sender = s; receiver = r; sequence = suc (pairCount s r hs); message = m; state = 0 }

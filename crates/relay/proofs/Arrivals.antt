@@ -15,7 +15,7 @@ use Rattle.sets.proofs.Bools.{either, cond-true, cond-false}
 use Rattle.layout.specs.Tables.{tabulate}
 use Rattle.model.specs.declared.Hop.{Hop}
 use Rattle.model.specs.declared.Message.{Message}
-use Rattle.model.specs.Network.{Plan, Network, network, hopAt, messagesOf, hopsOf, logOf, isOut, isTaken, setState, countHops, pairCount}
+use Rattle.model.specs.Network.{Plan, Network, network, hopAt, messagesOf, hopsOf, logOf, isOut, isTaken, setState, countHops, pairCount, pairTaken}
 use Rattle.model.specs.Rules.{Repeat, Outcome, outcome, refuse, refused, answerOf, leftOf, tally, settle, hold, arrive}
 use Rattle.model.specs.Claims.{Limits}
 use Rattle.model.proofs.Hops.{length-state, count-length}
@@ -24,7 +24,7 @@ use Rattle.model.proofs.Idle.{Idle}
 use Rattle.model.proofs.Sound.{Forest, sound-held}
 use Rattle.model.proofs.Runs.{Valid}
 use Rattle.model.proofs.Theorems.{valid-limits}
-use Rattle.model.proofs.Progress.{TakenFirst, taken-first-hold, pairTaken, taken-within, count-pair-state, hold-taken, hold-taken-all, hold-next, hold-idle}
+use Rattle.model.proofs.Progress.{TakenFirst, taken-first-hold, taken-within, count-pair-state, hold-taken, hold-taken-all, hold-next, hold-idle}
 use Rattle.routing.specs.Computed.{topology}
 use Rattle.tables.specs.Values.{plus, rowOf, added}
 use Rattle.relay.specs.declared.Bench.{Bench}
@@ -34,10 +34,10 @@ use Rattle.relay.specs.Machine.{finishedReply, arriveStart, arriveEnd}
 use Rattle.relay.specs.declared.replies.ArriveReply.{ArriveReply}
 use Rattle.relay.specs.declared.replies.ArriveReply.the-variants.{Taken as TakenNumber, Repeat as RepeatedHop, Held as HeldHop, ListTooShort as ArriveTooShort, NotMade}
 use Rattle.relay.specs.Replies.{arriveAnswer}
-use Rattle.relay.specs.State.{hopRecords, logBook, pairTable, takenCount, messageTable, benchOf}
+use Rattle.relay.specs.State.{hopRecords, logBook, pairTable, messageTable, benchOf}
 use Rattle.relay.proofs.Padding.{plus-small, tabulate-at, tabulate-same, tabulate-set, row-at, count-at, pair-set, pair-same, added-at}
 use Rattle.relay.proofs.Sends.{count-few}
-use Rattle.relay.proofs.Copies.{arrivalOf, takes-are, record-at, record-state}
+use Rattle.relay.proofs.Copies.{arrivalOf, record-at, record-state}
 use Rattle.relay.proofs.Searches.{PairBelow}
 use Rattle.relay.proofs.Settles.{Since, settlingOf, Ends, Before, still, loops}
 
@@ -162,7 +162,7 @@ module _ (P : Plan) (forest : Forest P) (ms : List Message) (hs : List Hop) (ls 
 
         -- where the loop begins
         abbrev at : ℕ
-        at = cond (isNext (takenCount s r hs) (hopAt hs j)) j (length hs)
+        at = cond (isNext (pairTaken s r hs) (hopAt hs j)) j (length hs)
 
         opened : isOpen number (hopAt hs j) ≡ true
         unfolding isOpen
@@ -172,12 +172,12 @@ module _ (P : Plan) (forest : Forest P) (ms : List Message) (hs : List Hop) (ls 
         unfolding benchOf hopsOf
         made-at = count-at (λ x y. pairCount x y hs) s r to-s to-r
 
-        taken-at : countOf (b .takes .grid) s r ≡ takenCount s r hs
+        taken-at : countOf (b .takes .grid) s r ≡ pairTaken s r hs
         unfolding benchOf hopsOf
-        taken-at = count-at (λ x y. takenCount x y hs) s r to-s to-r
+        taken-at = count-at (λ x y. pairTaken x y hs) s r to-s to-r
 
-        hold-takes : (x y : ℕ) → takenCount x y (setState j 1 hs) ≡ takenCount x y hs
-        hold-takes x y = takes-are x y (setState j 1 hs) ∙ hold-taken x y j hs made out ∙ sym (takes-are x y hs)
+        hold-takes : (x y : ℕ) → pairTaken x y (setState j 1 hs) ≡ pairTaken x y hs
+        hold-takes x y = hold-taken x y j hs made out
 
         start-is : arriveStart b j lent book ≡ arrivalOf P W₁ s r j at (length hs) 0
         unfolding arriveStart received arrivalOf benchOf messagesOf hopsOf logOf
@@ -198,22 +198,22 @@ module _ (P : Plan) (forest : Forest P) (ms : List Message) (hs : List Hop) (ls 
           counts = (row-at (λ x y. pairCount x y hs) r to-r ∙ tabulate-same 32 _ _ (λ c k. sym (count-pair-state r c j 1 hs))) i;
         })
           where
-            left-is : countOf (b .counts .grid) s r - countOf (b .takes .grid) s r ≡ pairCount s r (setState j 1 hs) - takenCount s r (setState j 1 hs)
+            left-is : countOf (b .counts .grid) s r - countOf (b .takes .grid) s r ≡ pairCount s r (setState j 1 hs) - pairTaken s r (setState j 1 hs)
             left-is = omega (arith, made-at, taken-at, count-pair-state s r j 1 hs, hold-takes s r)
 
         -- ---- the loop
 
-        sequence-is : plus (takenCount s r hs) 1 ≡ suc (takenCount s r hs)
+        sequence-is : plus (pairTaken s r hs) 1 ≡ suc (pairTaken s r hs)
         sequence-is =
-            plus-small (takenCount s r hs) 1 (omega (arith, takes-are s r hs, taken-within s r hs, count-few s r hs, few-hops)) ∙ add-one (takenCount s r hs)
+            plus-small (pairTaken s r hs) 1 (omega (arith, taken-within s r hs, count-few s r hs, few-hops)) ∙ add-one (pairTaken s r hs)
 
-        is-next : isNext (takenCount s r hs) (hopAt hs j) ≡ true → hopAt hs j .sequence ≡ suc (pairTaken s r hs)
+        is-next : isNext (pairTaken s r hs) (hopAt hs j) ≡ true → hopAt hs j .sequence ≡ suc (pairTaken s r hs)
         unfolding isNext
-        is-next t = eqb-true _ _ t ∙ sequence-is ∙ ap suc (takes-are s r hs)
+        is-next t = eqb-true _ _ t ∙ sequence-is
 
-        not-next : isNext (takenCount s r hs) (hopAt hs j) ≡ false → hopAt hs j .sequence ≡ suc (pairTaken s r hs) → ⊥
+        not-next : isNext (pairTaken s r hs) (hopAt hs j) ≡ false → hopAt hs j .sequence ≡ suc (pairTaken s r hs) → ⊥
         unfolding isNext
-        not-next t e = eqb-false _ _ t (e ∙ ap suc (sym (takes-are s r hs)) ∙ sym sequence-is)
+        not-next t e = eqb-false _ _ t (e ∙ sym sequence-is)
 
         numbers : Numbered hs
         unfolding Valid
@@ -223,17 +223,17 @@ module _ (P : Plan) (forest : Forest P) (ms : List Message) (hs : List Hop) (ls 
         unfolding Valid hopsOf PairBelow
         begins = ⊎-elim
             (λ t.
-            let here : at ≡ j = cond-true (isNext (takenCount s r hs) (hopAt hs j)) j (length hs) t in
+            let here : at ≡ j = cond-true (isNext (pairTaken s r hs) (hopAt hs j)) j (length hs) t in
             ready (omega (arith, here, made))
             (λ b. subst (Next s r (setState j 1 hs)) (sym here)
             (hold-next s r hs numbers first j made out (own-pair (hopAt hs j)) (is-next t)))
             (λ over. absurd (omega (arith, here, made))))
             (λ t.
-            let there : at ≡ length hs = cond-false (isNext (takenCount s r hs) (hopAt hs j)) j (length hs) t in
+            let there : at ≡ length hs = cond-false (isNext (pairTaken s r hs) (hopAt hs j)) j (length hs) t in
             ready (omega (arith, there))
             (λ b. absurd (omega (arith, there)))
             (λ over. hold-idle s r hs numbers first j made out (own-pair (hopAt hs j)) (idle s r) (not-next t)))
-            (either (isNext (takenCount s r hs) (hopAt hs j)))
+            (either (isNext (pairTaken s r hs) (hopAt hs j)))
           where
             ready : at ≤ length hs → (at < length hs → Next s r (setState j 1 hs) at) → (length hs ≤ at → Idle (setState j 1 hs) s r)
                 → Before P forest W₁ s r j (length hs) few-hops rest rest′ W₁ at 0
@@ -303,7 +303,7 @@ module _ (P : Plan) (forest : Forest P) (ms : List Message) (hs : List Hop) (ls 
           lengths = b .lengths;
         }
 
-        own-total : takenCount s r (hopsOf W″) ≡ takenCount s r hs + n
+        own-total : pairTaken s r (hopsOf W″) ≡ pairTaken s r hs + n
         unfolding hopsOf
         own-total = S .own ∙ ap (λ (k : ℕ). k + n) (hold-takes s r)
 
@@ -311,11 +311,10 @@ module _ (P : Plan) (forest : Forest P) (ms : List Message) (hs : List Hop) (ls 
         unfolding hopsOf
         total = S .all ∙ ap (λ (k : ℕ). k + n) (hold-taken-all j hs made out)
 
-        few-taken : takenCount s r hs + n < 65536
+        few-taken : pairTaken s r hs + n < 65536
         few-taken = omega (
           arith,
           own-total,
-          takes-are s r (hopsOf W″),
           taken-within s r (hopsOf W″),
           count-few s r (hopsOf W″),
           E .few,
@@ -330,12 +329,12 @@ module _ (P : Plan) (forest : Forest P) (ms : List Message) (hs : List Hop) (ls 
             pair-set (λ x y. pairCount x y hs) (λ x y. pairCount x y (hopsOf W″)) r _ to-r refl
             (λ x y bx by ne. S .counts x y ne ∙ count-pair-state x y j 1 hs)
 
-        takes-updated : set (b .takes .grid) s (added (rowOf (b .takes .grid) s) r n) ≡ pairTable (λ x y. takenCount x y (hopsOf W″))
+        takes-updated : set (b .takes .grid) s (added (rowOf (b .takes .grid) s) r n) ≡ pairTable (λ x y. pairTaken x y (hopsOf W″))
         unfolding benchOf hopsOf
         takes-updated =
-            pair-set (λ x y. takenCount x y hs) (λ x y. takenCount x y (hopsOf W″)) s _ to-s
-            (ap (λ (row : List ℕ). added row r n) (row-at (λ x y. takenCount x y hs) s to-s)
-            ∙ added-at (λ y. takenCount s y hs) (λ y. takenCount s y (hopsOf W″)) r n to-r few-taken own-total
+            pair-set (λ x y. pairTaken x y hs) (λ x y. pairTaken x y (hopsOf W″)) s _ to-s
+            (ap (λ (row : List ℕ). added row r n) (row-at (λ x y. pairTaken x y hs) s to-s)
+            ∙ added-at (λ y. pairTaken s y hs) (λ y. pairTaken s y (hopsOf W″)) r n to-r few-taken own-total
             (λ y by ne. S .others s y (λ e f. ne f) ∙ hold-takes s y))
             (λ x y bx by ne. S .others x y (λ e f. ne e) ∙ hold-takes x y)
 

@@ -12,13 +12,13 @@ use lib.Seq.{set-append-left, take-append-le, drop-append-add, take-append-seam}
 use Rattle.sets.proofs.Bools.{cond-true, and-both}
 use Rattle.layout.specs.Tables.{tabulate}
 use Rattle.layout.proofs.Tables.{same-tables}
-use Rattle.model.specs.Network.{Plan, fresh, noHop, messagesOf, hopsOf, logOf, sumOf, countHops, pairCount}
+use Rattle.model.specs.Network.{Plan, fresh, noHop, messagesOf, hopsOf, logOf, sumOf, countHops, pairCount, pairTaken}
 use Rattle.model.specs.Rules.{routeTotal}
 use Rattle.routing.specs.Computed.{topology}
 use Rattle.tables.specs.Values.{noCounts, noMessages, logged}
 use Rattle.relay.specs.Machine.{freshBench}
-use Rattle.relay.specs.State.{padded, joined, hopRecords, logBook, takenCount, pairTable, messageTable, benchOf}
-use Rattle.relay.proofs.Padding.{padded-none, padded-length, padded-snoc, getD-constant, listed-constant, listed-same, tabulate-listed}
+use Rattle.relay.specs.State.{padded, joined, hopRecords, logBook, pairTable, messageTable, benchOf}
+use Rattle.relay.proofs.Padding.{padded-none, padded-length, padded-snoc, getD-constant, tabulate-constant}
 
 module _ {A : Type 0} where
   -- ---- rows of one length, one after the other
@@ -133,15 +133,14 @@ fresh-book =
     joined-same 32 (λ u. padded 200 0 (logOf u fresh)) (λ u. replicate 200 0) (λ u. ap (padded 200 0) (fresh-log u) ∙ padded-none 200 0)
     ∙ joined-constant 32 200 0
 
--- a table that holds one number only
-tabulate-constant : (n : ℕ) (f : ℕ → ℕ) (x : ℕ) → ((i : ℕ) → f i ≡ x) → tabulate n f ≡ replicate n x
-tabulate-constant n f x same = same-tables n f (λ i. x) (λ i b. same i) ∙ tabulate-listed n (λ i. x) ∙ listed-constant n x
+-- a table whose entries are all x
+all-same : {A : Type 0} (n : ℕ) (f : ℕ → A) (x : A) → ((i : ℕ) → f i ≡ x) → tabulate n f ≡ replicate n x
+all-same n f x same = same-tables n f (λ i. x) (λ i b. same i) ∙ tabulate-constant n x
 
 none-counted : (f : ℕ → ℕ → ℕ) → ((s r : ℕ) → f s r ≡ 0) → pairTable f ≡ noCounts
 unfolding pairTable noCounts
 none-counted f none =
-    listed-same 32 (λ s. tabulate 32 (f s)) (λ s. replicate 32 0) (λ s b. tabulate-constant 32 (f s) 0 (none s))
-    ∙ listed-constant 32 (replicate 32 0)
+    all-same 32 (λ s. tabulate 32 (f s)) (replicate 32 0) (λ s. all-same 32 (f s) 0 (none s))
 
 fresh-messages : (P : Plan) → messageTable P [] ≡ noMessages
 unfolding messageTable noMessages routeTotal sumOf
@@ -154,13 +153,13 @@ fresh-messages P = λ i. record {
 }
 
 pub fresh-bench : (P : Plan) → benchOf P fresh ≡ freshBench (P .units) (P .count) (P .groups) (P .parents)
-unfolding benchOf freshBench hopsOf messagesOf fresh countHops sumOf pairCount takenCount
+unfolding benchOf freshBench hopsOf messagesOf fresh countHops sumOf pairCount pairTaken
 fresh-bench P = λ i. record {
   topology = topology (P .units) (P .count) (P .groups) (P .parents);
   messages = fresh-messages P i;
   made = 0;
   taken = 0;
   counts = record { grid = none-counted (λ s r. pairCount s r []) (λ s r. refl) i };
-  takes = record { grid = none-counted (λ s r. takenCount s r []) (λ s r. refl) i };
-  lengths = tabulate-constant 32 (λ u. length (logOf u fresh)) 0 (λ u. ap length (fresh-log u)) i;
+  takes = record { grid = none-counted (λ s r. pairTaken s r []) (λ s r. refl) i };
+  lengths = all-same 32 (λ u. length (logOf u fresh)) 0 (λ u. ap length (fresh-log u)) i;
 }

@@ -21,13 +21,13 @@ use Rattle.forest.specs.Claims.{Above, itself, Acyclic}
 use Rattle.model.specs.declared.Hop.{Hop}
 use Rattle.model.specs.declared.Message.{Message}
 use Rattle.model.specs.Network.{Plan, groupOf, routeOf, Network, network, noHop, messageAt, hopAt, messagesOf, hopsOf, logOf, withState}
-use Rattle.model.specs.Network.{setState, pairCount}
+use Rattle.model.specs.Network.{setState, pairCount, pairTaken}
 use Rattle.model.specs.Rules.{childrenOn, forward, logged, takeHop}
 use Rattle.model.specs.Claims.{Limits}
 use Rattle.model.proofs.Hops.{length-snoc, length-state}
 use Rattle.model.proofs.Sequences.{Next, pair-ends}
 use Rattle.model.proofs.Subtrees.{children-in}
-use Rattle.model.proofs.Progress.{Apart, takenOf, pairTaken, count-pair-state, take-taken, forward-count-apart}
+use Rattle.model.proofs.Progress.{Apart, count-pair-state, take-taken, forward-count-apart}
 use Rattle.model.proofs.Sound.{Forest}
 use Rattle.model.proofs.Runs.{Valid, take-valid}
 use Rattle.model.proofs.Theorems.{valid-limits}
@@ -37,7 +37,7 @@ use Rattle.hops.specs.declared.forwarding.Forwarding.{Forwarding}
 use Rattle.hops.specs.Access.{forwarded, forwardedHops}
 use Rattle.relay.specs.declared.arrival.Arrival.{Arrival}
 use Rattle.relay.specs.Machine.{groupFor, isMember, logCopy, outgoing, longerBy, afterCopy, takeArrival, takeHops, takeBook}
-use Rattle.relay.specs.State.{padded, logBook, takenCount, messageTable}
+use Rattle.relay.specs.State.{padded, logBook, messageTable}
 use Rattle.relay.proofs.Padding.{plus-small, padded-length, padded-set, padded-at, append-set, append-at, tabulate-at, tabulate-same, group-at}
 use Rattle.relay.proofs.Books.{book-log, joined-same}
 use Rattle.relay.proofs.Forwards.{rising-same, membersOf, forwardingOf, forwarded-all, listed-all}
@@ -54,17 +54,12 @@ arrivalOf P W s r hold at end n = record {
   hold = hold;
   at = at;
   end = end;
-  left = pairCount s r (hopsOf W) - takenCount s r (hopsOf W);
+  left = pairCount s r (hopsOf W) - pairTaken s r (hopsOf W);
   taken = n;
   length = length (logOf r W);
   made = length (hopsOf W);
   counts = tabulate 32 (λ c. pairCount r c (hopsOf W));
 }
-
--- the count of taken hops is the rules' own
-pub takes-are : (s r : ℕ) (hs : List Hop) → takenCount s r hs ≡ pairTaken s r hs
-unfolding takenCount pairTaken takenOf
-takes-are s r hs = refl
 
 -- ---- the lent hops
 
@@ -269,8 +264,8 @@ module _ (P : Plan) (forest : Forest P) (ms : List Message) (hs : List Hop) (ls 
   copy-pair =
       forward-count-apart s r r m (childrenOn (P .parents) way r) (setState j 2 hs) (child-apart P forest way s r) ∙ count-pair-state s r j 2 hs
 
-  copy-takes : takenCount s r hs′ ≡ suc (takenCount s r hs)
-  copy-takes = takes-are s r hs′ ∙ take-taken s r r m (childrenOn (P .parents) way r) hs j N ∙ ap suc (sym (takes-are s r hs))
+  copy-takes : pairTaken s r hs′ ≡ suc (pairTaken s r hs)
+  copy-takes = take-taken s r r m (childrenOn (P .parents) way r) hs j N
 
   pub copy-arrival : takeArrival a lent ≡ arrivalOf P W′ s r hold j end (suc n)
   unfolding takeArrival afterCopy arrivalOf hopsOf messagesOf forwardingOf
@@ -294,5 +289,5 @@ module _ (P : Plan) (forest : Forest P) (ms : List Message) (hs : List Hop) (ls 
         counts = tabulate 32 (λ c. pairCount r c hs′);
       })
     where
-      fewer : (pairCount s r hs - takenCount s r hs) - 1 ≡ pairCount s r hs′ - takenCount s r hs′
+      fewer : (pairCount s r hs - pairTaken s r hs) - 1 ≡ pairCount s r hs′ - pairTaken s r hs′
       fewer = omega (arith, copy-pair, copy-takes)

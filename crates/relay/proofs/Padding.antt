@@ -3,24 +3,24 @@ use mathlib.Core.Path.{_≡_, refl, sym, ap, subst, _∙_}
 use mathlib.Core.Logic.{by-cases}
 use mathlib.Core.List.{List, [], _∷_, _++_, map, map-append}
 use Prim.Native.Nat.{ℕ, zero, suc, _+_, _-_, _≤_, _<_}
-use native.Mathlib.Nat.{not-suc-le-zero, le-of-suc-le-suc, le-of-lt}
+use native.Mathlib.Nat.{le-of-lt}
 use native.Mathlib.Numerals.{add-one}
 use native.Mathlib.Decide.{ℕ-discrete}
 use native.Mathlib.Omega.{arith}
 use borrow.Author.Tests.{lt-ltb}
 use lib.ListN.{length, getD, set, drop, replicate, length-append, length-set, length-replicate, length-map, replicate-append-replicate}
 use lib.ListN.{List·getD-map}
-use lib.Seq.{append-snoc, set-append-seam, set-append-left, set-at, drop-cons, getD-set-same, getD-set-other, ext-getD}
+use lib.Seq.{append-snoc, set-append-seam, set-append-left, set-at, drop-cons, getD-set-same, getD-set-other}
 use Rattle.sets.proofs.Bools.{cond-true}
 use Rattle.layout.specs.Tables.{tabulate}
-use Rattle.layout.proofs.Tables.{getD-tabulate, same-tables}
+use Rattle.layout.proofs.Tables.{length-tabulate, getD-tabulate, tabulated, same-tables}
 use Rattle.model.specs.declared.Message.{Message}
 use Rattle.model.specs.Network.{Plan, routeSizeOf, noMessage, messageAt}
 use Rattle.model.specs.Rules.{routeTotal}
 use Rattle.model.proofs.Hops.{length-snoc, sum-snoc}
 use Rattle.tables.specs.Values.{plus, byte, filled, rowOf, added, recorded}
 use Rattle.relay.specs.Machine.{countOf}
-use Rattle.relay.specs.State.{padded, listed, pairTable, messageTable}
+use Rattle.relay.specs.State.{padded, pairTable, messageTable}
 -- laws of other libraries under this crate's names
 pub use lib.ListN.{List·getD-append as append-at}
 pub use lib.Seq.{set-append-left as append-set}
@@ -88,52 +88,23 @@ module _ {A : Type 0} where
       ∙ sym (append-snoc (replicate n x) x (drop (suc n) l))
       ∙ ap (λ (r : List A). r ++ drop (suc n) l) (replicate-append-replicate n 1 x ∙ ap (λ (k : ℕ). replicate k x) (add-one n))
 
-  -- ---- lists given by a function of the place
+  -- ---- tables
 
-  pub listed-length : (n : ℕ) (f : ℕ → A) → length (listed n f) ≡ n
-  unfolding listed
-  listed-length zero f = refl
-  listed-length (suc n) f = ap suc (listed-length n (λ i. f (suc i)))
+  pub tabulate-constant : (n : ℕ) (x : A) → tabulate n (λ i. x) ≡ replicate n x
+  unfolding tabulate
+  tabulate-constant zero x = refl
+  tabulate-constant (suc n) x = ap (λ (l : List A). x ∷ l) (tabulate-constant n x)
 
-  pub listed-at : (n : ℕ) (f : ℕ → A) (i : ℕ) (d : A) → i < n → getD (listed n f) i d ≡ f i
-  unfolding listed
-  listed-at zero f i d h = absurd (not-suc-le-zero h)
-  listed-at (suc n) f zero d h = refl
-  listed-at (suc n) f (suc i) d h = listed-at n (λ j. f (suc j)) i d (le-of-suc-le-suc h)
-
-  pub listed-is : (n : ℕ) (f : ℕ → A) (l : List A) (d : A) → length l ≡ n → ((i : ℕ) → i < n → getD l i d ≡ f i) → l ≡ listed n f
-  listed-is n f l d e h =
-      ext-getD d l (listed n f) (e ∙ sym (listed-length n f))
-      (λ i b. let b′ : i < n = subst (λ (x : ℕ). i < x) e b in h i b′ ∙ sym (listed-at n f i d b′))
-
-  pub listed-same : (n : ℕ) (f g : ℕ → A) → ((i : ℕ) → i < n → f i ≡ g i) → listed n f ≡ listed n g
-  listed-same n f g h = listed-is n g (listed n f) (f 0) (listed-length n f) (λ i b. listed-at n f i (f 0) b ∙ h i b)
-
-  pub listed-constant : (n : ℕ) (x : A) → listed n (λ i. x) ≡ replicate n x
-  unfolding listed
-  listed-constant zero x = refl
-  listed-constant (suc n) x = ap (λ (l : List A). x ∷ l) (listed-constant n x)
-
-  pub listed-set : (n : ℕ) (f g : ℕ → A) (i : ℕ) (y : A) → i < n → g i ≡ y → ((k : ℕ) → k < n → (k ≡ i → ⊥) → g k ≡ f k)
-      → set (listed n f) i y ≡ listed n g
-  listed-set n f g i y b e other =
-      listed-is n g (set (listed n f) i y) y (length-set (listed n f) i y ∙ listed-length n f)
+  pub tabulate-set : (n : ℕ) (f g : ℕ → A) (i : ℕ) (y : A) → i < n → g i ≡ y → ((k : ℕ) → k < n → (k ≡ i → ⊥) → g k ≡ f k)
+      → set (tabulate n f) i y ≡ tabulate n g
+  tabulate-set n f g i y b e other =
+      tabulated n g (set (tabulate n f) i y) y (length-set (tabulate n f) i y ∙ length-tabulate n f)
       (λ k c. by-cases (ℕ-discrete k i)
-      (λ p. ap (λ (j : ℕ). getD (set (listed n f) i y) j y) p
-      ∙ getD-set-same (listed n f) i y y (subst (λ (m : ℕ). i < m) (sym (listed-length n f)) b) ∙ sym e ∙ ap g (sym p))
-      (λ p. getD-set-other (listed n f) i k y y p ∙ listed-at n f k y c ∙ sym (other k c p)))
+      (λ p. ap (λ (j : ℕ). getD (set (tabulate n f) i y) j y) p
+      ∙ getD-set-same (tabulate n f) i y y (subst (λ (m : ℕ). i < m) (sym (length-tabulate n f)) b) ∙ sym e ∙ ap g (sym p))
+      (λ p. getD-set-other (tabulate n f) i k y y p ∙ getD-tabulate n f k y c ∙ sym (other k c p)))
 
 -- ---- rows
-
-pub tabulate-listed : (n : ℕ) (f : ℕ → ℕ) → tabulate n f ≡ listed n f
-unfolding tabulate listed
-tabulate-listed zero f = refl
-tabulate-listed (suc n) f = ap (λ (l : List ℕ). f 0 ∷ l) (tabulate-listed n (λ i. f (suc i)))
-
-pub tabulate-set : (n : ℕ) (f g : ℕ → ℕ) (i v : ℕ) → i < n → g i ≡ v → ((k : ℕ) → k < n → (k ≡ i → ⊥) → g k ≡ f k)
-    → set (tabulate n f) i v ≡ tabulate n g
-tabulate-set n f g i v b e other =
-    ap (λ (l : List ℕ). set l i v) (tabulate-listed n f) ∙ listed-set n f g i v b e other ∙ sym (tabulate-listed n g)
 
 pub added-at : (f g : ℕ → ℕ) (r n : ℕ) → r < 32 → f r + n < 65536 → g r ≡ f r + n → ((k : ℕ) → k < 32 → (k ≡ r → ⊥) → g k ≡ f k)
     → added (tabulate 32 f) r n ≡ tabulate 32 g
@@ -146,7 +117,7 @@ added-at f g r n b small e other =
 
 pub row-at : (f : ℕ → ℕ → ℕ) (s : ℕ) → s < 32 → rowOf (pairTable f) s ≡ tabulate 32 (f s)
 unfolding rowOf pairTable
-row-at f s b = listed-at 32 (λ a. tabulate 32 (f a)) s (replicate 32 0) b
+row-at f s b = getD-tabulate 32 (λ a. tabulate 32 (f a)) s (replicate 32 0) b
 
 pub count-at : (f : ℕ → ℕ → ℕ) (s r : ℕ) → s < 32 → r < 32 → countOf (pairTable f) s r ≡ f s r
 unfolding countOf
@@ -156,13 +127,13 @@ pub pair-set : (f g : ℕ → ℕ → ℕ) (s : ℕ) (row : List ℕ) → s < 32
     → ((a b : ℕ) → a < 32 → b < 32 → (a ≡ s → ⊥) → g a b ≡ f a b) → set (pairTable f) s row ≡ pairTable g
 unfolding pairTable
 pair-set f g s row b e other =
-    listed-set 32 (λ a. tabulate 32 (f a)) (λ a. tabulate 32 (g a)) s row b (sym e)
+    tabulate-set 32 (λ a. tabulate 32 (f a)) (λ a. tabulate 32 (g a)) s row b (sym e)
     (λ a c n. same-tables 32 (g a) (f a) (λ k d. other a k c d n))
 
 pub pair-same : (f g : ℕ → ℕ → ℕ) → ((a b : ℕ) → a < 32 → b < 32 → f a b ≡ g a b) → pairTable f ≡ pairTable g
 unfolding pairTable
 pair-same f g same =
-    listed-same 32 (λ a. tabulate 32 (f a)) (λ a. tabulate 32 (g a)) (λ a c. same-tables 32 (f a) (g a) (λ k d. same a k c d))
+    same-tables 32 (λ a. tabulate 32 (f a)) (λ a. tabulate 32 (g a)) (λ a c. same-tables 32 (f a) (g a) (λ k d. same a k c d))
 
 -- ---- the table of messages
 

@@ -10,6 +10,7 @@ use borrow.Author.Tests.{lt-ltb, le-ltb, lt-leb, leb-false, eq-eqb, ne-eqb, eqb-
 use lib.Dec.{ltb, leb, eqb}
 use lib.ListN.{length, take, drop, take-append-drop}
 use lib.Seq.{set-out}
+use denote.Ref.{RefT}
 use Rattle.sets.proofs.Bools.{either, or-left, or-right}
 use Rattle.model.specs.declared.Hop.{Hop}
 use Rattle.model.specs.Network.{Plan, Network, network, noHop, hopAt, hopsOf, logOf, isOut, isTaken, sumOf, bit, countHops}
@@ -33,7 +34,7 @@ use Rattle.relay.specs.Machine.{Settling, unlessRefused, logStart, logCo
 use Rattle.relay.specs.Replies.{freshAnswer, sendAnswer, arriveAnswer, restAnswer, logAnswer, Length}
 use Rattle.relay.specs.State.{hopRecords, logBook, benchOf}
 use Rattle.relay.specs.Promises.{after, OfHops, OfBook, FreshPromise, SentAs, SendPromise, ArrivedAs, ArrivePromise, RestPromise}
-use Rattle.relay.specs.Promises.{handedBack, lengthAnswer, LogPromise, LengthPromise}
+use Rattle.relay.specs.Promises.{handedBack, lengthAnswer, LogPromise, LogPlace, LengthPromise}
 use Rattle.relay.proofs.Padding.{filled-whole, tabulate-at}
 use Rattle.relay.proofs.Books.{fresh-hops, fresh-book, fresh-bench, book-part}
 use Rattle.relay.proofs.Sends as S
@@ -214,4 +215,20 @@ length-promise b u book = record {
   rule = λ P planned cs e of. subst
       (λ (b : Bench). logAnswer (logReply b u (length book)) ≡ lengthAnswer (log P u (length book) (after P cs))) (sym e)
       (length-as P (planned-forest P planned) (after P cs) u book of);
+}
+
+-- where the part lies, from where its start lies
+start-is : (P : Plan) → Forest P → (W : Network) (u book : ℕ) → 6400 ≤ book → u < P .units → logStart (benchOf P W) u book ≡ u * 200
+unfolding logStart unlessRefused refuse benchOf topology
+start-is P forest W u book whole unit =
+    simp (le-ltb book 6400 whole) (simp (lt-leb (P .units) u unit) (simp (lt-leb 32 u (le-trans unit (forest .few))) refl))
+
+pub log-place : (b : Bench) (u : ℕ) (book part : RefT (List ℕ))
+    → part .ptr ≡ (book .ptr .0, logStart b u (length (book .now)) * 2 + book .ptr .1) → LogPlace b u book part
+unfolding after
+log-place b u book part e = record {
+  rule = λ P planned cs f of unit.
+      let start : logStart b u (length (book .now)) ≡ u * 200 =
+      ap (λ (x : Bench). logStart x u (length (book .now))) f ∙ start-is P (planned-forest P planned) (after P cs) u _ (of .whole) unit in
+      e ∙ (λ i. (book .ptr .0, (let z : logStart b u (length (book .now)) * 2 + book .ptr .1 ≡ book .ptr .1 + 2 * (u * 200) = omega (arith, start) in z) i));
 }

@@ -12,7 +12,7 @@ use lib.ListN.{length}
 use Rattle.sets.proofs.Bools.{either, clash, cond-true, cond-false}
 use Rattle.model.specs.declared.Hop.{Hop}
 use Rattle.model.specs.declared.Message.{Message}
-use Rattle.model.specs.Network.{Plan, Network, network, noHop, hopAt, hopsOf, isPair, isHeld, setState, pairCount}
+use Rattle.model.specs.Network.{Plan, Network, network, noHop, hopAt, hopsOf, isPair, isHeld, setState, pairCount, pairTaken}
 use Rattle.model.specs.Rules.{childrenOn, forward}
 use Rattle.model.proofs.Hops.{length-state}
 use Rattle.model.proofs.Sequences.{Next}
@@ -22,8 +22,8 @@ use Rattle.model.proofs.Progress.{TakenFirst, pair-at, forward-old, forward-apa
 use Rattle.hops.specs.Access.{nextOfPair}
 use Rattle.relay.specs.declared.arrival.Arrival.{Arrival}
 use Rattle.relay.specs.Machine.{searchFrom, searchEnd, moveTo, movedTo, nextPlace, nextArrival}
-use Rattle.relay.specs.State.{padded, takenCount}
-use Rattle.relay.proofs.Copies.{arrivalOf, record-at, child-apart, takes-are}
+use Rattle.relay.specs.State.{padded}
+use Rattle.relay.proofs.Copies.{arrivalOf, record-at, child-apart}
 
 -- ---- the first hop of a pair from a place on
 
@@ -104,7 +104,7 @@ module _ (P : Plan) (forest : Forest P) (ms : List Message) (hs : List Hop) (ls 
     a = arrivalOf P W′ s r hold j end n
 
     abbrev left : ℕ
-    left = pairCount s r hs′ - takenCount s r hs′
+    left = pairCount s r hs′ - pairTaken s r hs′
 
     abbrev q : ℕ
     q = nextPlace a lent
@@ -122,7 +122,7 @@ module _ (P : Plan) (forest : Forest P) (ms : List Message) (hs : List Hop) (ls 
       rises = within;
       until = omega arith;
       next = λ b. absurd (omega arith);
-      idle = λ b. equal-idle s r hs′ (omega (arith, eqb-true left 0 t, taken-within s r hs′, takes-are s r hs′));
+      idle = λ b. equal-idle s r hs′ (omega (arith, eqb-true left 0 t, taken-within s r hs′));
     }
 
     search : eqb left 0 ≡ false → FirstFrom s r (suc j) end lent q
@@ -142,7 +142,7 @@ module _ (P : Plan) (forest : Forest P) (ms : List Message) (hs : List Hop) (ls 
     some-left t =
         let F = search t in
         let (x, after, inside, pair) = after-some s r r m cs hs j N
-        (omega (arith, eqb-false left 0 t, taken-within s r hs′, takes-are s r hs′)) in
+        (omega (arith, eqb-false left 0 t, taken-within s r hs′)) in
         let at-x : isPair s r (hopAt lent x) ≡ true = ap (isPair s r) (record-at hs′ rest x inside few) ∙ pair in
         let early : q ≤ x = by-cases (decLt x q) (λ l. absurd (clash at-x (F .none-before x (omega arith) l))) (λ l. omega arith) in
         let under : x < end = copy-below x inside pair in

@@ -17,7 +17,7 @@ use Rattle.forest.specs.Forest.{route, routeSize}
 use Rattle.model.specs.declared.Hop.{Hop}
 use Rattle.model.specs.declared.Message.{Message}
 use Rattle.model.specs.Network.{Plan, groupOf, primaryOf, routeOf, routeSizeOf, Network, network, noHop, messagesOf, hopsOf, logOf, isPair, isTaken}
-use Rattle.model.specs.Network.{bit, countHops, pairCount, newHop, made}
+use Rattle.model.specs.Network.{bit, countHops, pairCount, newHop, made, pairTaken, takenOf}
 use Rattle.model.specs.Rules.{Refused, Sent, Outcome, outcome, refuse, refused, answerOf, leftOf, routeTotal, send}
 use Rattle.model.specs.Claims.{Limits}
 use Rattle.model.proofs.Hops.{length-snoc, count-snoc, count-length}
@@ -27,7 +27,7 @@ use Rattle.tables.specs.Values.{plus, byte, rowOf, added, recorded}
 use Rattle.relay.specs.declared.Bench.{Bench}
 use Rattle.relay.specs.Machine.{countOf, sizeAt, sendRefusal, firstHop, recordedBench, sentBench, sentReply}
 use Rattle.relay.specs.Replies.{sendAnswer}
-use Rattle.relay.specs.State.{padded, hopRecords, pairTable, takenCount, messageTable, benchOf}
+use Rattle.relay.specs.State.{padded, hopRecords, pairTable, messageTable, benchOf}
 use Rattle.relay.proofs.Padding.{plus-small, byte-small, padded-length, padded-snoc, append-set, tabulate-at, row-at, count-at}
 use Rattle.relay.proofs.Padding.{pair-set, pair-same, added-at, messages-snoc}
 
@@ -91,10 +91,10 @@ pub taken-made : (s r m : ℕ) (hs : List Hop) → countHops isTaken (made s r m
 unfolding made newHop isTaken bit
 taken-made s r m hs = count-snoc isTaken hs (newHop s r m hs) ∙ omega arith
 
-pub takes-made : (a b s r m : ℕ) (hs : List Hop) → takenCount a b (made s r m hs) ≡ takenCount a b hs
-unfolding takenCount made newHop isTaken bit
+pub takes-made : (a b s r m : ℕ) (hs : List Hop) → pairTaken a b (made s r m hs) ≡ pairTaken a b hs
+unfolding pairTaken takenOf made newHop isTaken bit
 takes-made a b s r m hs =
-    count-snoc (λ h. isPair a b h && isTaken h) hs (newHop s r m hs) ∙ omega (arith, ap bit (and-false (isPair a b (newHop s r m hs))))
+    count-snoc (takenOf a b) hs (newHop s r m hs) ∙ omega (arith, ap bit (and-false (isPair a b (newHop s r m hs))))
 
 pub count-few : (a b : ℕ) (hs : List Hop) → pairCount a b hs ≤ length hs
 unfolding pairCount

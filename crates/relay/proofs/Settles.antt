@@ -15,7 +15,7 @@ use Rattle.sets.proofs.Bools.{cond-true, cond-false}
 use Rattle.model.specs.declared.Hop.{Hop}
 use Rattle.model.specs.declared.Message.{Message}
 use Rattle.model.specs.Network.{Plan, groupOf, routeOf, Network, network, noHop, messageAt, hopAt, messagesOf, hopsOf, logOf, isTaken, setState, countHops}
-use Rattle.model.specs.Network.{pairCount}
+use Rattle.model.specs.Network.{pairCount, pairTaken}
 use Rattle.model.specs.Rules.{Outcome, outcome, childrenOn, forward, logged, takeHop, nextHeld, tally, settle}
 use Rattle.model.proofs.Sequences.{Numbered, Next}
 use Rattle.model.proofs.Idle.{Idle}
@@ -25,8 +25,8 @@ use Rattle.model.proofs.Theorems.{valid-limits}
 use Rattle.model.proofs.Progress.{TakenFirst, taken-first-take, next-place, idle-place, count-pair-state, take-taken, take-taken-other, forward-count-sender}
 use Rattle.relay.specs.declared.arrival.Arrival.{Arrival}
 use Rattle.relay.specs.Machine.{takeArrival, takeHops, takeBook, nextArrival, isGoing, Settling, settled}
-use Rattle.relay.specs.State.{padded, hopRecords, logBook, takenCount}
-use Rattle.relay.proofs.Copies.{arrivalOf, takes-are, copy-state, copy-valid, copy-hops, copy-book, copy-arrival, few-after, log-same}
+use Rattle.relay.specs.State.{padded, hopRecords, logBook}
+use Rattle.relay.proofs.Copies.{arrivalOf, copy-state, copy-valid, copy-hops, copy-book, copy-arrival, few-after, log-same}
 use Rattle.relay.proofs.Searches.{Onward, PairBelow, copy-below, onward}
 
 -- what n copies from s to r, taken since W₀, have left as it was, and what they have counted
@@ -34,8 +34,8 @@ pub record Since (W₀ W : Network) (s r n : ℕ) : Type 0 where
   pub none : n ≡ 0 → W ≡ W₀
   pub messages : messagesOf W ≡ messagesOf W₀
   pub counts : (a b : ℕ) → (a ≡ r → ⊥) → pairCount a b (hopsOf W) ≡ pairCount a b (hopsOf W₀)
-  pub others : (a b : ℕ) → (a ≡ s → b ≡ r → ⊥) → takenCount a b (hopsOf W) ≡ takenCount a b (hopsOf W₀)
-  pub own : takenCount s r (hopsOf W) ≡ takenCount s r (hopsOf W₀) + n
+  pub others : (a b : ℕ) → (a ≡ s → b ≡ r → ⊥) → pairTaken a b (hopsOf W) ≡ pairTaken a b (hopsOf W₀)
+  pub own : pairTaken s r (hopsOf W) ≡ pairTaken s r (hopsOf W₀) + n
   pub all : countHops isTaken (hopsOf W) ≡ countHops isTaken (hopsOf W₀) + n
   pub logs : (u : ℕ) → (u ≡ r → ⊥) → logOf u W ≡ logOf u W₀
 
@@ -138,8 +138,8 @@ module _ (P : Plan) (forest : Forest P) (W₀ : Network) (s r hold end : ℕ) (s
       none = λ e. absurd (omega arith);
       messages = B .since .messages;
       counts = λ a b ne. forward-count-sender a b r m cs (setState at 2 hs) ne ∙ count-pair-state a b at 2 hs ∙ B .since .counts a b ne;
-      others = λ a b ne. takes-are a b hs′ ∙ take-taken-other s r r m cs hs at N a b ne ∙ sym (takes-are a b hs) ∙ B .since .others a b ne;
-      own = omega (arith, takes-are s r hs′, take-taken s r r m cs hs at N, takes-are s r hs, B .since .own);
+      others = λ a b ne. take-taken-other s r r m cs hs at N a b ne ∙ B .since .others a b ne;
+      own = omega (arith, take-taken s r r m cs hs at N, B .since .own);
       all = omega (arith, ap (λ (X : Network). countHops isTaken (hopsOf X)) (sym rule-is), take-count P forest ms hs ls s r at N, B .since .all);
       logs = λ u ne. log-same P forest ms hs ls (B .valid) s r at N rest rest′ hold end n small-count u ne ∙ B .since .logs u ne;
     }

@@ -6,11 +6,11 @@ use lib.ListN.{getD}
 use Rattle.sets.specs.Sets.{member}
 use Rattle.model.specs.Network.{Plan, groupOf, Network, network, setState}
 use Rattle.model.specs.Rules.{Answer, Refused, Sent, Repeat, Held, Taken, Outcome, outcome, answerOf, leftOf, send, arrive}
-use Rattle.relay.specs.State.{listed}
+use Rattle.layout.specs.Tables.{tabulate}
 
 -- message m at the end of the log of each unit that passes a test
 unfoldable pub logAt : (ℕ → Bool) → ℕ → Network → Network
-logAt test m (network ms hs ls) = network ms hs (listed 32 (λ u. cond (test u) (getD ls u [] ++ m ∷ []) (getD ls u [])))
+logAt test m (network ms hs ls) = network ms hs (tabulate 32 (λ u. cond (test u) (getD ls u [] ++ m ∷ []) (getD ls u [])))
 
 -- a message that was sent is logged at every member at once
 unfoldable pub logIfSent : (ℕ → Bool) → Answer → Network → Network

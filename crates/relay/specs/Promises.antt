@@ -3,9 +3,10 @@
 -- book are those that a list of calls has left. Of a longer list the first 2,000 hops and 6,400 numbers are used, and the rest stays.
 use mathlib.Core.Path.{_≡_}
 use mathlib.Core.Logic.{_⊎_}
-use Prim.Native.Nat.{ℕ, _*_, _≤_, _<_}
+use Prim.Native.Nat.{ℕ, _+_, _*_, _≤_, _<_}
 use mathlib.Core.List.{List, [], _∷_, _++_}
 use lib.ListN.{length, take, drop}
+use denote.Ref.{RefT}
 use Rattle.model.specs.declared.Hop.{Hop}
 use Rattle.model.specs.Network.{Plan, Network, fresh}
 use Rattle.model.specs.Rules.{Outcome, Refused, answerOf, leftOf, quiescent}
@@ -97,6 +98,11 @@ pub record LogPromise (b : Bench) (unit : ℕ) (book part : List ℕ) : Type 0 w
   pub short : length book < 6400 → part ≡ []
   pub rule : (P : Plan) → Planned P → (cs : List Call) → b ≡ benchOf P (after P cs) → OfBook (after P cs) book
       → (part ≡ handedBack (log P unit (length book) (after P cs))) × (part ≡ take (length part) (drop (unit * 200) book))
+
+-- and it is that part of the lent book itself: in the same block of memory, from the byte where the unit's row starts
+pub record LogPlace (b : Bench) (unit : ℕ) (book part : RefT (List ℕ)) : Type 0 where
+  pub rule : (P : Plan) → Planned P → (cs : List Call) → b ≡ benchOf P (after P cs) → OfBook (after P cs) (book .now) → unit < P .units
+      → part .ptr ≡ (book .ptr .0, book .ptr .1 + 2 * (unit * 200))
 
 pub record LengthPromise (b : Bench) (unit : ℕ) (book : List ℕ) (r : LogReply) : Type 0 where
   pub short : length book < 6400 → logAnswer r ≡ LengthRefused 1

@@ -1,12 +1,11 @@
 -- How a state of the rules stands in a bench, in the lent hops and in the lent log book. Definitions only.
 use Prim.Native.Nat.{ℕ, zero, suc, _-_}
-use mathlib.Core.Bool.{_&&_}
-use mathlib.Core.List.{List, [], _∷_, _++_, map}
+use mathlib.Core.List.{List, [], _++_, map}
 use lib.ListN.{length, replicate}
 use Rattle.layout.specs.Tables.{tabulate}
 use Rattle.model.specs.declared.Hop.{Hop}
 use Rattle.model.specs.declared.Message.{Message}
-use Rattle.model.specs.Network.{Plan, Network, noHop, messagesOf, hopsOf, logOf, isPair, isTaken, countHops, pairCount}
+use Rattle.model.specs.Network.{Plan, Network, noHop, messagesOf, hopsOf, logOf, isTaken, countHops, pairCount, pairTaken}
 use Rattle.model.specs.Rules.{routeTotal}
 use Rattle.routing.specs.Computed.{topology}
 use Rattle.tables.specs.declared.messages.Messages.{Messages}
@@ -16,11 +15,7 @@ use Rattle.relay.specs.declared.Bench.{Bench}
 unfoldable pub padded : {A : Type 0} → ℕ → A → List A → List A
 padded n x l = l ++ replicate (n - length l) x
 
--- f 0, f 1, .., n of them; and one after the other
-unfoldable pub listed : {A : Type 0} → ℕ → (ℕ → A) → List A
-listed zero f = []
-listed (suc n) f = f 0 ∷ listed n (λ i. f (suc i))
-
+-- f 0, f 1, .., n of them, one after the other
 unfoldable pub joined : {A : Type 0} → ℕ → (ℕ → List A) → List A
 joined zero f = []
 joined (suc n) f = f 0 ++ joined n (λ i. f (suc i))
@@ -32,13 +27,9 @@ hopRecords W = padded 2000 noHop (hopsOf W)
 unfoldable pub logBook : Network → List ℕ
 logBook W = joined 32 (λ u. padded 200 0 (logOf u W))
 
--- how many hops from s to r were taken
-unfoldable pub takenCount : ℕ → ℕ → List Hop → ℕ
-takenCount s r hs = countHops (λ h. isPair s r h && isTaken h) hs
-
 -- a count for each ordered pair of units, sender by receiver
 unfoldable pub pairTable : (ℕ → ℕ → ℕ) → List (List ℕ)
-pairTable f = listed 32 (λ s. tabulate 32 (f s))
+pairTable f = tabulate 32 (λ s. tabulate 32 (f s))
 
 unfoldable pub messageTable : Plan → List Message → Messages
 messageTable P ms = record {
@@ -57,6 +48,6 @@ benchOf P W = record {
   made = length (hopsOf W);
   taken = countHops isTaken (hopsOf W);
   counts = record { grid = pairTable (λ s r. pairCount s r (hopsOf W)) };
-  takes = record { grid = pairTable (λ s r. takenCount s r (hopsOf W)) };
+  takes = record { grid = pairTable (λ s r. pairTaken s r (hopsOf W)) };
   lengths = tabulate 32 (λ u. length (logOf u W));
 }

@@ -12,7 +12,7 @@ pub use replies::RestReply;
 pub use replies::SendReply;
 ghost use mathlib.Core.Path.{_≡_};
 ghost use Rattle.relay.specs.Machine.{isShort, freshBench, freshResult, restReply};
-ghost use Rattle.relay.specs.Promises.{FreshPromise, SendPromise, ArrivePromise, RestPromise, LogPromise, LengthPromise};
+ghost use Rattle.relay.specs.Promises.{FreshPromise, SendPromise, ArrivePromise, RestPromise, LogPromise, LogPlace, LengthPromise};
 
 pub struct Bench {
     pub topology: routing::Topology,
@@ -170,7 +170,8 @@ impl Bench {
 
     // The log of a unit: the part of the lent book itself that holds its messages. Turned away, an empty part.
     pub fn log<'a>(self, unit: u16, book: &'a [u16]) -> &'a [u16]
-        ensures { λ r. ⌜ LogPromise self unit (now (book .entry)) (now r) ⌝ }
+        ensures promise { λ r. ⌜ LogPromise self unit (now (book .entry)) (now r) ⌝ }
+        ensures place { λ r. ⌜ LogPlace self unit (book .entry) r ⌝ }
     {
         let lent = book.len();
         let start = logs::start(self, unit, lent);

@@ -11,7 +11,6 @@ use Prim.Native.Nat.{zero-le}
 use Rattle.model.specs.declared.Hop.{Hop}
 use Rattle.model.specs.Network.{noHop}
 use Rattle.tables.specs.Values.{filled}
-use Rattle.hops.specs.Access.{cleared}
 use Rattle.hops.proofs.Records.{R, typed}
 use Rattle.hops.proofs.Called.{clear-callee, append-callee, no-hop-callee}
 use Rattle.hops.proofs.no_hop.Symbol as no-hop-def
@@ -23,9 +22,9 @@ use Rattle.hops.proofs.clear.Statement as stated
 use Rattle.hops.proofs.clear.Code as code
 use Rattle.hops.proofs.clear.Code.Mir.{locals, turn-1, t-3}
 
-cleared-next : (n : ℕ) (hs : List Hop) → set (cleared n hs) n noHop ≡ cleared (n + 1) hs
-unfolding cleared filled
-cleared-next n hs = ap (λ (m : ℕ). cleared m hs) (sym (add-one n))
+filled-next : (n : ℕ) (hs : List Hop) → set (filled n noHop hs) n noHop ≡ filled (n + 1) noHop hs
+unfolding filled
+filled-next n hs = ap (λ (m : ℕ). filled m noHop hs) (sym (add-one n))
 
 module _ {M : Type 1} (𝓤 : URA M) (H : Heap 𝓤) (A : Atoms 𝓤) (W : Given 𝓤 H A) where
   abbrev self : Duty 𝓤 H A
@@ -57,7 +56,7 @@ module _ {M : Type 1} (𝓤 : URA M) (H : Heap 𝓤) (A : Atoms 𝓤) (W : Given
 
         -- the invariant: [the slice; the locals, the last first]
         abbrev At : Upto → List (Item 𝓤)
-        At i = ‵ (Holds R L (cleared (i .0) hs)) ∷ stack locals bs (vs empty i empty) []
+        At i = ‵ (Holds R L (filled (i .0) noHop hs)) ∷ stack locals bs (vs empty i empty) []
 
         turns : (i : Upto) → Sq W (At i) (runs (𝓣 .C) (𝓣 .Λ) En turn-1 (anyQ (Turned 𝓤 H A 𝓣 En t-3 (Done-at self h) Nearer At i)))
         unfolding afterTurn
@@ -67,15 +66,15 @@ module _ {M : Type 1} (𝓤 : URA M) (H : Heap 𝓤) (A : Atoms 𝓤) (W : Given
             (λ less.
             calls ! fm (no-hop-callee 𝓤 H A) of-no-hop tt tt tt refl (no-more !) (λ zeros. into ! (init ! 9 refl (typed noHop zeros)) $
             sets ! (ptr-of ! 15 refl refl) (init ! 3 refl (tt, tt)) $ sets ! (slice-of ! 3 15 refl refl refl) (init ! 1 refl (tt, (tt, (record { fits = rooms .0 .0 .0 }, tt)))) $
-            calls ! fm (append-callee 𝓤 H A) of-append ((L, cleared (i .0) hs), (i .0, (noHop, tt))) ((refl, fits i), (zeros, tt)) tt refl
+            calls ! fm (append-callee 𝓤 H A) of-append ((L, filled (i .0) noHop hs), (i .0, (noHop, tt))) ((refl, fits i), (zeros, tt)) tt refl
             (var ! 1 refl & var ! 11 refl & var ! 9 refl & no-more !) (λ _. into ! (init ! 5 refl (tt, tt)) $
             sets-last ! (bin ! (var ! 11 refl) (lit ! tt) (record { fits = fits (next less) })) (store ! 11 refl (tt, record { fits = fits (next less) })) $
-            rewrite ! 0 (λ (zs : List Hop). ‵ (Holds R L zs)) (cleared-next (i .0) hs) refl $
+            rewrite ! 0 (λ (zs : List Hop). ‵ (Holds R L zs)) (filled-next (i .0) hs) refl $
             forget ! 1 refl $ forget ! 3 refl $ forget ! 5 refl $ forget ! 7 refl $ forget ! 9 refl $ again ! Nearer At i (next less) (omega (arith, ltb→lt (i .0) count less)))))
             (λ over.
             exec ! (𝓣 .C) (𝓣 .Λ) En t-3 (atRet En (Done-at self h)) $ sets ! (of-opd ! (unit-lit !)) (init ! 17 refl (tt, tt)) $ returns ! (look ! 17 refl) $
-            leaves ! (‵ (Holds R L (cleared (i .0) hs)) ∷ []) locals bs (vs (holds vunit) i (holds (vbool (ltb (i .0) count)))) tt $
-            rewrite ! 0 (λ (zs : List Hop). ‵ (Holds R L zs)) (ap (λ (m : ℕ). cleared m hs) (le-antisymm (i .1) (nltb→le (i .0) count over))) refl $ check ! refl $ done !)
+            leaves ! (‵ (Holds R L (filled (i .0) noHop hs)) ∷ []) locals bs (vs (holds vunit) i (holds (vbool (ltb (i .0) count)))) tt $
+            rewrite ! 0 (λ (zs : List Hop). ‵ (Holds R L zs)) (ap (λ (m : ℕ). filled m noHop hs) (le-antisymm (i .1) (nltb→le (i .0) count over))) refl $ check ! refl $ done !)
           where
             fits : (j : Upto) → j .0 < 2 ^ 64
             fits j = let count-fits = fit .0 .1 in omega (arith, j .1, count-fits)
@@ -84,7 +83,7 @@ module _ {M : Type 1} (𝓤 : URA M) (H : Heap 𝓤) (A : Atoms 𝓤) (W : Given
             next less = (i .0 + 1, omega (arith, ltb→lt (i .0) count less))
 
       walk : Goes self 𝓣 code.function h
-      unfolding cleared filled
+      unfolding filled
       walk =
           starts W self 𝓣 code.function h (suited W (self .passes) h fit rooms) (λ bs. sets ! (of-opd ! (lit ! tt)) (init ! 11 refl (tt, record { fits = omega arith })) $
           first ! $ blocks ! $ loops ! 𝓣 Nearer Nearer-wf (At bs) (turns bs) (0, zero-le))

@@ -13,7 +13,6 @@ use Rattle.walks.proofs.Calling.{value, lent}
 use Rattle.model.specs.declared.Hop.{Hop}
 use Rattle.tables.proofs.book.clear.Symbol as book-clear-def
 use Rattle.tables.proofs.book.clear.Met as book-clear-thm
-use Rattle.hops.specs.Access.{cleared}
 use Rattle.hops.proofs.Records.{R}
 use Rattle.hops.proofs.Called.{clear-callee}
 use Rattle.hops.proofs.clear.Symbol as clear-def
@@ -73,7 +72,7 @@ module _ {M : Type 1} (𝓤 : URA M) (H : Heap 𝓤) (A : Atoms 𝓤) (mem : Mem
 
   module _ (W : Given 𝓤 H A) (𝓣 : Tables 𝓤 H) (known : Known 𝓤 H A 𝓣) where
     walk : (h : Handed (duty .passes)) → Fit (duty .passes) h → Rooms (duty .passes) h → Goes duty 𝓣 code.function h
-    unfolding freshHops freshBook cleared
+    unfolding freshHops freshBook
     walk h fit rooms =
         let fm = fmOf 𝓤 H (W .laws) 𝓣 in
         let units : ℕ = h .0 in let groups : List ℕ = h .1 .0 in let count : ℕ = h .1 .1 .0 in let parents : List ℕ = h .1 .1 .1 .0 in

@@ -1,0 +1,113 @@
+-- Document 01's run P8 and some refused files, by computation. Assumes nothing.
+use mathlib.Core.Path.{_≡_, refl}
+use mathlib.Core.List.{List, [], _∷_}
+use Prim.Native.Nat.{ℕ}
+use Rattle.text.specs.Text.{isBad, digit, digits, number, decimalWithin, decimal, inFront, split, join, startsWith, after, isWord, some}
+use Rattle.sets.specs.Sets.{member, including, single, union}
+use Rattle.lines.specs.Lines.{refuse, unitsKey, groupsKey, groupKey, parentsKey, sendKey, arriveKey, buildWord, rootWord, commas, numbersIn}
+use Rattle.lines.specs.Lines.{countIn, countFault, unitsFault, groupsFault, countLine, risesFrom, withMembers, groupIn, groupFault, membersFrom, groupLine}
+use Rattle.lines.specs.Lines.{Drawn, entry, entriesIn, parentOf, parentsIn, parentsFault, parentText, parentsLine}
+use Rattle.lines.specs.Lines.{Send, Arrive, badSend, eventFault, eventIn, eventLine}
+use Rattle.benchfile.specs.File.{File, Refused, Good, next, step, finish, steps, readFile, linesOf, ended, textOf}
+
+-- P8: bench C, drawn as P4, with its events
+abbrev pub p8 : List ℕ
+p8 =
+    117 ∷ 110 ∷ 105 ∷ 116 ∷ 115 ∷ 61 ∷ 52 ∷ 10 ∷
+    103 ∷ 114 ∷ 111 ∷ 117 ∷ 112 ∷ 115 ∷ 61 ∷ 52 ∷ 10 ∷
+    103 ∷ 114 ∷ 111 ∷ 117 ∷ 112 ∷ 61 ∷ 48 ∷ 44 ∷ 51 ∷ 10 ∷
+    103 ∷ 114 ∷ 111 ∷ 117 ∷ 112 ∷ 61 ∷ 48 ∷ 44 ∷ 49 ∷ 10 ∷
+    103 ∷ 114 ∷ 111 ∷ 117 ∷ 112 ∷ 61 ∷ 50 ∷ 44 ∷ 51 ∷ 10 ∷
+    103 ∷ 114 ∷ 111 ∷ 117 ∷ 112 ∷ 61 ∷ 49 ∷ 44 ∷ 50 ∷ 10 ∷
+    112 ∷ 97 ∷ 114 ∷ 101 ∷ 110 ∷ 116 ∷ 115 ∷ 61 ∷ 45 ∷ 44 ∷ 50 ∷ 44 ∷ 48 ∷ 44 ∷ 50 ∷ 10 ∷
+    115 ∷ 101 ∷ 110 ∷ 100 ∷ 61 ∷ 51 ∷ 44 ∷ 48 ∷ 44 ∷ 53 ∷ 48 ∷ 48 ∷ 10 ∷
+    115 ∷ 101 ∷ 110 ∷ 100 ∷ 61 ∷ 49 ∷ 44 ∷ 50 ∷ 44 ∷ 54 ∷ 48 ∷ 48 ∷ 10 ∷
+    97 ∷ 114 ∷ 114 ∷ 105 ∷ 118 ∷ 101 ∷ 61 ∷ 48 ∷ 10 ∷
+    97 ∷ 114 ∷ 114 ∷ 105 ∷ 118 ∷ 101 ∷ 61 ∷ 49 ∷ 10 ∷
+    97 ∷ 114 ∷ 114 ∷ 105 ∷ 118 ∷ 101 ∷ 61 ∷ 50 ∷ 10 ∷
+    97 ∷ 114 ∷ 114 ∷ 105 ∷ 118 ∷ 101 ∷ 61 ∷ 52 ∷ 10 ∷
+    97 ∷ 114 ∷ 114 ∷ 105 ∷ 118 ∷ 101 ∷ 61 ∷ 51 ∷ 10 ∷ []
+
+-- what it says
+abbrev pub p8File : File
+p8File = record {
+  units = 4;
+  groups = 9 ∷ 3 ∷ 12 ∷ 6 ∷ [];
+  parents = Drawn (255 ∷ 2 ∷ 0 ∷ 2 ∷ []);
+  events = Send 3 0 500 ∷ Send 1 2 600 ∷ Arrive 0 ∷ Arrive 1 ∷ Arrive 2 ∷ Arrive 4 ∷ Arrive 3 ∷ [];
+}
+
+-- `units=1` with CR LF: 4 at line 1
+abbrev pub crlf : List ℕ
+crlf =
+    117 ∷ 110 ∷ 105 ∷ 116 ∷ 115 ∷ 61 ∷ 49 ∷ 13 ∷ 10 ∷ []
+
+-- `units=01`: 4 at line 1
+abbrev pub leadingZero : List ℕ
+leadingZero =
+    117 ∷ 110 ∷ 105 ∷ 116 ∷ 115 ∷ 61 ∷ 48 ∷ 49 ∷ 10 ∷ []
+
+-- 33 units: 5 at line 1
+abbrev pub units33 : List ℕ
+units33 =
+    117 ∷ 110 ∷ 105 ∷ 116 ∷ 115 ∷ 61 ∷ 51 ∷ 51 ∷ 10 ∷ []
+
+-- `group=1,0,2` on 2 units: 6, and not 7, at line 3
+abbrev pub lowest : List ℕ
+lowest =
+    117 ∷ 110 ∷ 105 ∷ 116 ∷ 115 ∷ 61 ∷ 50 ∷ 10 ∷
+    103 ∷ 114 ∷ 111 ∷ 117 ∷ 112 ∷ 115 ∷ 61 ∷ 49 ∷ 10 ∷
+    103 ∷ 114 ∷ 111 ∷ 117 ∷ 112 ∷ 61 ∷ 49 ∷ 44 ∷ 48 ∷ 44 ∷ 50 ∷ 10 ∷ []
+
+-- `group=1,0` before `group=x`: 7 at line 3
+abbrev pub firstLineDecides : List ℕ
+firstLineDecides =
+    117 ∷ 110 ∷ 105 ∷ 116 ∷ 115 ∷ 61 ∷ 50 ∷ 10 ∷
+    103 ∷ 114 ∷ 111 ∷ 117 ∷ 112 ∷ 115 ∷ 61 ∷ 50 ∷ 10 ∷
+    103 ∷ 114 ∷ 111 ∷ 117 ∷ 112 ∷ 61 ∷ 49 ∷ 44 ∷ 48 ∷ 10 ∷
+    103 ∷ 114 ∷ 111 ∷ 117 ∷ 112 ∷ 61 ∷ 120 ∷ 10 ∷ []
+
+-- `send=65535,0,0`: 4 at line 4
+abbrev pub source : List ℕ
+source =
+    117 ∷ 110 ∷ 105 ∷ 116 ∷ 115 ∷ 61 ∷ 49 ∷ 10 ∷
+    103 ∷ 114 ∷ 111 ∷ 117 ∷ 112 ∷ 115 ∷ 61 ∷ 48 ∷ 10 ∷
+    112 ∷ 97 ∷ 114 ∷ 101 ∷ 110 ∷ 116 ∷ 115 ∷ 61 ∷ 45 ∷ 10 ∷
+    115 ∷ 101 ∷ 110 ∷ 100 ∷ 61 ∷ 54 ∷ 53 ∷ 53 ∷ 51 ∷ 53 ∷ 44 ∷ 48 ∷ 44 ∷ 48 ∷ 10 ∷ []
+
+-- a doubled last LF: 3 at line 4
+abbrev pub doubled : List ℕ
+doubled =
+    117 ∷ 110 ∷ 105 ∷ 116 ∷ 115 ∷ 61 ∷ 49 ∷ 10 ∷
+    103 ∷ 114 ∷ 111 ∷ 117 ∷ 112 ∷ 115 ∷ 61 ∷ 48 ∷ 10 ∷
+    112 ∷ 97 ∷ 114 ∷ 101 ∷ 110 ∷ 116 ∷ 115 ∷ 61 ∷ 45 ∷ 10 ∷
+    10 ∷ []
+
+pub record Examples : Type 0 where
+  pub read : readFile 9000 p8 ≡ Good p8File
+  pub written : textOf p8File ≡ p8
+  pub empty : readFile 9000 [] ≡ Refused (3 ∷ 1 ∷ [])
+  pub short : readFile 8999 p8 ≡ Refused (1 ∷ [])
+  pub crlf-refused : readFile 9000 crlf ≡ Refused (4 ∷ 1 ∷ [])
+  pub leadingZero-refused : readFile 9000 leadingZero ≡ Refused (4 ∷ 1 ∷ [])
+  pub units33-refused : readFile 9000 units33 ≡ Refused (5 ∷ 1 ∷ [])
+  pub lowest-refused : readFile 9000 lowest ≡ Refused (6 ∷ 3 ∷ [])
+  pub firstLineDecides-refused : readFile 9000 firstLineDecides ≡ Refused (7 ∷ 3 ∷ [])
+  pub source-refused : readFile 9000 source ≡ Refused (4 ∷ 4 ∷ [])
+  pub doubled-refused : readFile 9000 doubled ≡ Refused (3 ∷ 4 ∷ [])
+
+pub examples : Examples
+unfolding isBad digit digits number decimalWithin decimal inFront split join startsWith after isWord some member including single union refuse unitsKey groupsKey groupKey parentsKey sendKey arriveKey buildWord rootWord commas numbersIn countIn countFault unitsFault groupsFault countLine risesFrom withMembers groupIn groupFault membersFrom groupLine entry entriesIn parentOf parentsIn parentsFault parentText parentsLine badSend eventFault eventIn eventLine next step finish steps readFile linesOf ended textOf
+examples = record {
+  read = refl;
+  written = refl;
+  empty = refl;
+  short = refl;
+  crlf-refused = refl;
+  leadingZero-refused = refl;
+  units33-refused = refl;
+  lowest-refused = refl;
+  firstLineDecides-refused = refl;
+  source-refused = refl;
+  doubled-refused = refl;
+}

@@ -1,0 +1,9 @@
+pub mod Contents
+pub mod EventLines
+pub mod Examples
+pub mod HeadingLines
+pub mod Lines
+pub mod Reading
+pub mod RoundTrip
+pub mod Theorems
+pub mod WrittenLines

@@ -1,0 +1,10 @@
+pub mod Drawings
+pub mod Ends
+pub mod Faults
+pub mod Folds
+pub mod MemberLists
+pub mod Membership
+pub mod ParentTexts
+pub mod RoundTrip
+pub mod Sends
+pub mod Values

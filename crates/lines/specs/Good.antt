@@ -1,0 +1,21 @@
+-- What a file can say in one line: a good group, good parents, a good event. Definitions only.
+use Prim.Native.Nat.{ℕ, _^_, _<_}
+use mathlib.Core.Path.{_≡_}
+use mathlib.Core.Logic.{_⊎_}
+use lib.ListN.{length, getD}
+use Rattle.lines.specs.Lines.{Parents, Build, Drawn, Event, Send, Arrive}
+
+-- a group of n units: not empty, every member below n
+pub record GoodGroup (n s : ℕ) : Type 0 where
+  pub some : s ≡ 0 → ⊥
+  pub below : s < 2 ^ n
+
+-- parents of n units: `build`, or for each unit a unit or a root
+abbrev pub GoodParents : ℕ → Parents → Type 0
+GoodParents n Build = Unit {0}
+GoodParents n (Drawn ps) = (length ps ≡ n) × ((u : ℕ) → u < n → (getD ps u 255 ≡ 255) ⊎ (getD ps u 255 < n))
+
+-- an event: source+1 is at most 65,535, as is every other number
+abbrev pub GoodEvent : Event → Type 0
+GoodEvent (Send s g w) = (s < 65535) × (g < 65536) × (w < 65536)
+GoodEvent (Arrive h) = h < 65536

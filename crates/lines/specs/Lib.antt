@@ -1,0 +1,3 @@
+pub mod Lines
+pub mod Good
+pub mod Fields

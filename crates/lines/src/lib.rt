@@ -1,0 +1,37 @@
+// The lines of a bench file (document 01): the line readers, each handed the rest of a file. Every function is total.
+mod entries;
+mod events;
+mod fields;
+mod members;
+
+pub use entries::parents;
+pub use entries::Drawing;
+pub use events::event;
+pub use events::EventField;
+pub use fields::groups;
+pub use fields::units;
+pub use fields::Field;
+pub use members::group;
+
+ghost use mathlib.Core.Path.{_≡_};
+ghost use mathlib.Core.Bool.{_||_, cond};
+
+// Whether one of two tests is true.
+fn either(a: bool, b: bool) -> bool
+    ensures { λ r. ⌜ r ≡ (a || b) ⌝ }
+{
+    if a {
+        return true;
+    }
+    b
+}
+
+// One of two numbers.
+fn pick(test: bool, a: u32, b: u32) -> u32
+    ensures { λ r. ⌜ r ≡ cond test a b ⌝ }
+{
+    if test {
+        return a;
+    }
+    b
+}

@@ -1,0 +1,23 @@
+-- One byte is written where there is room, and none at the end.
+use borrow.Author.Needs.{needs}
+use Rattle.text.proofs.Written.{written-byte, written-past}
+use Rattle.text.proofs.writing.put.Statement.{statement}
+use Rattle.text.proofs.writing.put.Tie as tie
+
+slice-write-out : tie.Need-slice-write-out
+slice-write-out c = search needs
+
+add-result : tie.Need-add-result
+add-result c = search needs
+
+same-length : tie.Need-same-length
+same-length c = search needs
+
+returns : tie.Need-returns
+returns c = written-byte _ _ _ (c .if1 .taken)
+
+returns-2 : tie.Need-returns-2
+returns-2 c = written-past _ _ _ (c .if1 .left)
+
+pub put-spec : {M : Type 1} → statement M
+put-spec = tie.close (tie.spec slice-write-out add-result same-length returns returns-2)

@@ -1,0 +1,86 @@
+// Reading: a byte's place, keys and words, decimal numbers.
+ghost use mathlib.Core.Path.{_≡_};
+ghost use Rattle.text.specs.Text.{digit as digitOf, number as numberOf, startsWith, isWord};
+ghost use Rattle.text.specs.Writing.{placeOf};
+
+// The place of the first such byte; the length where there is none.
+pub fn find(text: &[u8], byte: u8) -> usize
+    ensures { λ r. ⌜ r ≡ placeOf byte (now (text .entry)) ⌝ }
+{
+    let mut at = 0;
+    while at < text.len() {
+        if text[at] == byte {
+            return at;
+        }
+        at += 1;
+    }
+    at
+}
+
+// Whether the text begins with a key.
+pub fn starts_with(text: &[u8], key: &[u8]) -> bool
+    ensures { λ r. ⌜ r ≡ startsWith (now (key .entry)) (now (text .entry)) ⌝ }
+{
+    let mut at = 0;
+    while at < key.len() {
+        if text.len() <= at {
+            return false;
+        }
+        if text[at] != key[at] {
+            return false;
+        }
+        at += 1;
+    }
+    true
+}
+
+// Whether the text is that word and no more.
+pub fn is_word(text: &[u8], word: &[u8]) -> bool
+    ensures { λ r. ⌜ r ≡ isWord (now (word .entry)) (now (text .entry)) ⌝ }
+{
+    if text.len() != word.len() {
+        return false;
+    }
+    starts_with(text, word)
+}
+
+// A byte behind the digits of n; 65,536 where that is no number.
+fn digit(n: u32, byte: u8) -> u32
+    ensures { λ r. ⌜ r ≡ digitOf n byte ⌝ }
+{
+    if 65535 < n {
+        return 65536;
+    }
+    if byte < 48 {
+        return 65536;
+    }
+    if 57 < byte {
+        return 65536;
+    }
+    let next = n * 10 + (byte - 48) as u32;
+    if next < 65536 {
+        return next;
+    }
+    65536
+}
+
+// A decimal number; 65,536 where the text is none.
+pub fn number(text: &[u8]) -> u32
+    ensures { λ r. ⌜ r ≡ numberOf (now (text .entry)) ⌝ }
+{
+    if text.len() == 0 {
+        return 65536;
+    }
+    if text[0] == 48 {
+        if 1 < text.len() {
+            return 65536;
+        }
+    }
+    let mut n: u32 = 0;
+    let mut at = 0;
+    while at < text.len() {
+        n = digit(n, text[at]);
+        at += 1;
+    }
+    n
+}

@@ -20,12 +20,16 @@ use Rattle.benchfile.specs.declared.Content.{Content}
 
 -- ---- events and their numbers
 
--- the numbers of k events are 3 * k
+-- the numbers of an event are three, those of k events 3 * k
+pub numbers-three : (e : Event) → length (eventNumbers e) ≡ 3
+unfolding eventNumbers
+numbers-three (Send s g w) = refl
+numbers-three (Arrive h) = refl
+
 pub numbers-length : (es : List Event) → length (numbersOf es) ≡ 3 * length es
-unfolding numbersOf eventNumbers
+unfolding numbersOf
 numbers-length [] = refl
-numbers-length (Send s g w ∷ es) = omega (arith, numbers-length es)
-numbers-length (Arrive h ∷ es) = omega (arith, numbers-length es)
+numbers-length (e ∷ es) = length-append (eventNumbers e) (numbersOf es) ∙ omega (arith, numbers-three e, numbers-length es)
 
 -- events written as numbers are read back, whatever follows
 pub events-back : (es : List Event) (rest : List ℕ) → eventsFrom (length es) (numbersOf es ++ rest) ≡ es

@@ -3,7 +3,7 @@ use mathlib.Core.Path.{_≡_, refl, sym, ap, _∙_}
 use mathlib.Core.Logic.{by-cases}
 use mathlib.Core.Bool.{Bool, true, false, cond}
 use mathlib.Core.List.{List, [], _∷_, _++_, append-assoc, append-nil}
-use Prim.Native.Nat.{ℕ, suc, _+_, _-_, _*_, _≤_, _<_}
+use Prim.Native.Nat.{ℕ, _+_, _-_, _≤_, _<_}
 use native.Mathlib.Nat.{add-suc, suc-ne-zero, not-suc-le-zero}
 use native.Mathlib.Numerals.{add-one}
 use native.Mathlib.Decide.{decLt}
@@ -14,16 +14,17 @@ use lib.Seq.{drop-drop}
 use lib.Dec.{leb, eqb}
 use Rattle.text.specs.Text.{split}
 use Rattle.text.specs.Writing.{Written, placeOf}
-use Rattle.text.proofs.Pieces.{place-le, split-place, split-none, split-some}
+use Rattle.text.proofs.Pieces.{place-le, split-none}
 use Rattle.text.proofs.Written.{written-none, written-append}
 use Rattle.lines.specs.Lines.{refuse, Parents, Event, eventFault, eventIn, eventNumbers}
-use Rattle.lines.specs.Fields.{firstLine, eventAt}
+use Rattle.lines.specs.Fields.{firstLine, faultAt, eventAt}
 use Rattle.lines.specs.declared.events.EventField.{EventField}
+use Rattle.lines.proofs.Ends.{rest-is, fault-line, fault-none}
+use Rattle.lines.proofs.RoundTrip.{event-fault-number}
 use Rattle.benchfile.specs.File.{EventDue, step, steps, finish}
 use Rattle.benchfile.specs.Calls.{numbersOf}
 use Rattle.benchfile.specs.Steps.{goodEvents, EventsCounted}
-use Rattle.benchfile.proofs.Lines.{Due, LineRead, part-is, event-known, fault-line, fault-none, three-numbers}
-use Rattle.benchfile.proofs.Lines.{event-read, read-known, read-place, read-line, read-inside, read-fault, read-good}
+use Rattle.benchfile.proofs.Lines.{split-line, Due, LineRead, event-read, read-place, read-line, read-inside, read-fault, read-good}
 
 -- ---- the fault of an event that others came before
 
@@ -31,64 +32,39 @@ use Rattle.benchfile.proofs.Lines.{event-read, read-known, read-place, 
 abbrev testsFault : Bool → Bool → Bool → ℕ
 testsFault a b c = refuse a 3 (refuse b 4 (refuse c 9 0))
 
-tests-first : (a b c : Bool) → (testsFault a b false ≡ 0 → ⊥) → testsFault a b c ≡ testsFault a b false
+-- a fault of the line stays; a good line is one too many after 3,000
+tests-later : (a b c : Bool) → testsFault a b c ≡ cond (eqb (testsFault a b false) 0) (refuse c 9 0) (testsFault a b false)
 unfolding refuse
-tests-first true b c h = refl
-tests-first false true c h = refl
-tests-first false false c h = absurd (h refl)
+tests-later true b c = refl
+tests-later false true c = refl
+tests-later false false c = refl
 
-tests-last : (a b c : Bool) → testsFault a b false ≡ 0 → testsFault a b c ≡ refuse c 9 0
-unfolding refuse
-tests-last true b c e = absurd (suc-ne-zero 2 e)
-tests-last false true c e = absurd (suc-ne-zero 3 e)
-tests-last false false c e = refl
-
--- a fault of the line stays
-event-fault : (k : ℕ) (line : List ℕ) → (eventFault 0 line ≡ 0 → ⊥) → eventFault k line ≡ eventFault 0 line
+event-later : (k : ℕ) (line : List ℕ) → eventFault k line ≡ cond (eqb (eventFault 0 line) 0) (refuse (leb 3000 k) 9 0) (eventFault 0 line)
 unfolding eventFault
-event-fault k line h = tests-first _ _ (leb 3000 k) h
-
--- a good line is one too many after 3,000
-event-last : (k : ℕ) (line : List ℕ) → eventFault 0 line ≡ 0 → eventFault k line ≡ refuse (leb 3000 k) 9 0
-unfolding eventFault
-event-last k line e = tests-last _ _ (leb 3000 k) e
-
-event-full : (k : ℕ) (line : List ℕ) → eventFault 0 line ≡ 0 → 3000 ≤ k → eventFault k line ≡ 9
-unfolding refuse
-event-full k line e h = event-last k line e ∙ simp (le-leb 3000 k h)
-
-event-good : (k : ℕ) (line : List ℕ) → eventFault 0 line ≡ 0 → k < 3000 → eventFault k line ≡ 0
-unfolding refuse
-event-good k line e h = event-last k line e ∙ simp (lt-leb 3000 k h)
+event-later k line = tests-later _ _ (leb 3000 k)
 
 -- ---- the good events at the start of a text
 
-good-more : (line : List ℕ) (ls : List (List ℕ)) → ((p : List ℕ) × (ps : List (List ℕ)) × (ls ≡ p ∷ ps))
-    → goodEvents (line ∷ ls) ≡ cond (eqb (eventFault 0 line) 0) (eventIn line ∷ goodEvents ls) []
-unfolding goodEvents
-good-more line ls (p, ps, e) = rw e
-
--- a good line
 module _ {rest : List ℕ} {f used : ℕ} (r : LineRead (eventFault 0) rest f used) where
+  -- a good line
   good-first : f ≡ 0 → goodEvents (split 10 rest) ≡ eventIn (firstLine rest) ∷ goodEvents (split 10 (drop used rest))
-  unfolding firstLine
-  good-first z = rw (split-place 10 rest (read-place r z), r .takes z)
-      (good-more _ _ (split-some 10 (drop (suc (placeOf 10 rest)) rest)) ∙ simp (eq-eqb _ 0 (read-line r z)))
+  unfolding goodEvents
+  good-first z = let (p, ps, e, d) = split-line rest (read-place r z) in rw (r .takes z, e, d, eq-eqb (eventFault 0 (firstLine rest)) 0 (read-line r z))
 
   -- a line with a fault, or no line
   good-none : (f ≡ 0 → ⊥) → goodEvents (split 10 rest) ≡ []
-  unfolding firstLine goodEvents
+  unfolding goodEvents
   good-none b = by-cases (decLt (placeOf 10 rest) (length rest))
-      (λ h. rw (split-place 10 rest h) (good-more _ _ (split-some 10 (drop (suc (placeOf 10 rest)) rest))
-        ∙ simp (ne-eqb (eventFault 0 (take (placeOf 10 rest) rest)) 0 (λ z. b (r .is ∙ fault-line (eventFault 0) rest h ∙ z)))))
-      (λ h. let l : placeOf 10 rest ≡ length rest = omega (arith, place-le 10 rest) in rw (split-none 10 rest l))
+      (λ h. let (p, ps, e, d) = split-line rest h in
+        rw (e, ne-eqb (eventFault 0 (firstLine rest)) 0 (λ z. b (r .is ∙ fault-line (eventFault 0) rest h ∙ z))))
+      (λ h. rw (split-none 10 rest (omega (arith, place-le 10 rest))))
 
 -- `es` are the good events up to the place `at`
 pub record EventsUpTo (rest : List ℕ) (at : ℕ) (es : List Event) : Type 0 where
   pub inside : at ≤ length rest
   pub good : goodEvents (split 10 rest) ≡ es ++ goodEvents (split 10 (drop at rest))
 
-pub events-none : (rest : List ℕ) → EventsUpTo rest 0 []
+events-none : (rest : List ℕ) → EventsUpTo rest 0 []
 events-none rest = record { inside = omega arith; good = refl }
 
 module _ {rest : List ℕ} {at : ℕ} {es : List Event} (so : EventsUpTo rest at es) where
@@ -99,18 +75,18 @@ module _ {rest : List ℕ} {at : ℕ} {es : List Event} (so : EventsUpTo rest at
 
   module _ (line : EventField) (e : line ≡ eventAt (take (length rest - at) (drop at rest))) where
     event-is : line ≡ eventAt (drop at rest)
-    event-is = rw part-is at e
+    event-is = rw rest-is at e
 
     event-line : LineRead (eventFault 0) (drop at rest) (line .fault) (line .used)
     event-line = event-read (drop at rest) event-is .0
 
-    pub events-fault : (line .fault ≡ 0 → ⊥) → goodEvents (split 10 rest) ≡ es
+    events-fault : (line .fault ≡ 0 → ⊥) → goodEvents (split 10 rest) ≡ es
     events-fault b = so .good ∙ rw (good-none event-line b) (append-nil es)
 
     pub event-inside : line .fault ≡ 0 → (0 < line .used) × (at + line .used ≤ length rest)
     event-inside z = omega (arith, so .inside, event-line .takes z, read-inside event-line z, length-drop at rest)
 
-    pub events-turn : line .fault ≡ 0 → EventsUpTo rest (at + line .used) (es ++ eventIn (firstLine (drop at rest)) ∷ [])
+    events-turn : line .fault ≡ 0 → EventsUpTo rest (at + line .used) (es ++ eventIn (firstLine (drop at rest)) ∷ [])
     events-turn z = record {
       inside = event-inside z .1;
       good = so .good ∙ rw (good-first event-line z, append-assoc es, ← drop-drop (line .used) at rest);
@@ -122,31 +98,26 @@ event-due : (k : ℕ) (rest : List ℕ) → 0 < length rest → (n : ℕ) (gs : 
     → Due k rest (EventDue n gs ps es) (eventFault (length es)) (λ line. EventDue n gs ps (es ++ eventIn line ∷ []))
 unfolding step finish
 event-due k [] h n gs ps es = absurd (not-suc-le-zero h)
-event-due k (b ∷ rest) h n gs ps es = record { reads = λ line. refl; missing = refl }
+event-due k (b ∷ rest) h n gs ps es = record { reads = λ line. refl; number = event-fault-number (length es); missing = refl }
 
 -- the line's fault where k events came before it
 module _ {rest : List ℕ} {f used : ℕ} (r : LineRead (eventFault 0) rest f used) (k : ℕ) where
+  later-is : faultAt (eventFault k) rest ≡ cond (eqb f 0) (refuse (leb 3000 k) 9 0) f
+  later-is = rw (r .is) (by-cases (decLt (placeOf 10 rest) (length rest))
+      (λ h. rw (fault-line (eventFault k) rest h, fault-line (eventFault 0) rest h) (event-later k (firstLine rest)))
+      (λ h. let l : length rest ≤ placeOf 10 rest = omega arith in rw (fault-none (eventFault k) rest l, fault-none (eventFault 0) rest l)))
+
   later-fault : (f ≡ 0 → ⊥) → LineRead (eventFault k) rest f used
-  later-fault b = record {
-    is = by-cases (decLt (placeOf 10 rest) (length rest))
-        (λ h. let e = r .is ∙ fault-line (eventFault 0) rest h in
-          e ∙ sym (fault-line (eventFault k) rest h ∙ event-fault k (firstLine rest) (λ z. b (e ∙ z))))
-        (λ h. let l : length rest ≤ placeOf 10 rest = omega arith in r .is ∙ fault-none (eventFault 0) rest l ∙ sym (fault-none (eventFault k) rest l));
-    takes = λ z. absurd (b z);
-  }
+  later-fault b = record { is = sym (later-is ∙ simp (ne-eqb f 0 b)); takes = r .takes }
 
   module _ (z : f ≡ 0) where
     later-full : 3000 ≤ k → LineRead (eventFault k) rest 9 used
-    later-full h = record {
-      is = sym (fault-line (eventFault k) rest (read-place r z) ∙ event-full k (firstLine rest) (read-line r z) h);
-      takes = λ _. r .takes z;
-    }
+    unfolding refuse
+    later-full h = record { is = sym (later-is ∙ simp (eq-eqb f 0 z, le-leb 3000 k h)); takes = λ _. r .takes z }
 
     later-good : k < 3000 → LineRead (eventFault k) rest f used
-    later-good h = record {
-      is = z ∙ sym (fault-line (eventFault k) rest (read-place r z) ∙ event-good k (firstLine rest) (read-line r z) h);
-      takes = r .takes;
-    }
+    unfolding refuse
+    later-good h = record { is = z ∙ sym (later-is ∙ simp (eq-eqb f 0 z, lt-leb 3000 k h)); takes = r .takes }
 
 -- so many events were counted, up to the place `at`
 pub record CountedSoFar (rest : List ℕ) (at count : ℕ) : Type 0 where
@@ -172,16 +143,12 @@ module _ {rest : List ℕ} {at count : ℕ} (so : CountedSoFar rest at count) wh
   counted-all h =
       let all = events-end (so .read) h in record {
         refused = λ b. absurd (b refl);
-        known = λ b. absurd (b refl);
         few = so .few;
         count = λ _. sym (so .many) ∙ ap length (sym all);
         good = λ _ k n gs ps. so .same k n gs ps ∙ rw (drop-of-length-le rest h, all);
       }
 
   module _ (more : at < length rest) (line : EventField) (e : line ≡ eventAt (take (length rest - at) (drop at rest))) where
-    line-read : LineRead (eventFault 0) (drop at rest) (line .fault) (line .used)
-    line-read = event-line (so .read) line e
-
     line-due : (k n : ℕ) (gs : List ℕ) (ps : Parents)
         → Due k (drop at rest) (EventDue n gs ps (so .events)) (eventFault count) (λ x. EventDue n gs ps (so .events ++ eventIn x ∷ []))
     line-due k n gs ps = rw (so .many) at (event-due k (drop at rest) (omega (arith, length-drop at rest)) n gs ps (so .events))
@@ -189,22 +156,18 @@ module _ {rest : List ℕ} {at count : ℕ} (so : CountedSoFar rest at count) wh
     refused-with : {f used : ℕ} → LineRead (eventFault count) (drop at rest) f used → (f ≡ 0 → ⊥)
         → EventsCounted rest (record { fault = f; count = count })
     refused-with r b = record {
-      refused = λ _ k n gs ps. so .same k n gs ps ∙ read-fault r (line-due (k + count) n gs ps) b;
-      known = λ _. read-known r (event-known count) b;
+      refused = λ _ k n gs ps. rw (so .same k n gs ps) (read-fault r (line-due (k + count) n gs ps) b);
       few = so .few;
       count = λ z. absurd (b z);
       good = λ z. absurd (b z);
     }
 
     pub counted-fault : (line .fault ≡ 0 → ⊥) → EventsCounted rest (record { fault = line .fault; count = count })
-    counted-fault b = refused-with (later-fault line-read count b) b
+    counted-fault b = refused-with (later-fault (event-line (so .read) line e) count b) b
 
     module _ (z : line .fault ≡ 0) where
       pub counted-full : 3000 ≤ count → EventsCounted rest (record { fault = 9; count = count })
-      counted-full h = refused-with (later-full line-read count z h) (suc-ne-zero 8)
-
-      pub counted-inside : (0 < line .used) × (at + line .used ≤ length rest)
-      counted-inside = event-inside (so .read) line e z
+      counted-full h = refused-with (later-full (event-line (so .read) line e) count z h) (suc-ne-zero 8)
 
       pub counted-turn : count < 3000 → CountedSoFar rest (at + line .used) (count + 1)
       counted-turn h = record {
@@ -214,7 +177,7 @@ module _ {rest : List ℕ} {at count : ℕ} (so : CountedSoFar rest at count) wh
         read = events-turn (so .read) line e z;
         same = λ k n gs ps. so .same k n gs ps
             ∙ rw (add-one count, add-suc k count, ← drop-drop (line .used) at rest)
-            (read-good (later-good line-read count z h) (line-due (k + count) n gs ps) z);
+            (read-good (later-good (event-line (so .read) line e) count z h) (line-due (k + count) n gs ps) z);
       }
 
 -- ---- stored
@@ -224,12 +187,6 @@ unfolding numbersOf
 numbers-append [] ds = refl
 numbers-append (e ∷ es) ds =
     ap (λ (ns : List ℕ). eventNumbers e ++ ns) (numbers-append es ds) ∙ sym (append-assoc (eventNumbers e) (numbersOf es) (numbersOf ds))
-
-pub numbers-length : (es : List Event) → length (numbersOf es) ≡ 3 * length es
-unfolding numbersOf
-numbers-length [] = refl
-numbers-length (e ∷ es) =
-    length-append (eventNumbers e) (numbersOf es) ∙ omega (arith, ap length (three-numbers e), numbers-length es)
 
 -- the numbers of the events up to the place `at` were written
 pub record StoredSoFar (rest list : List ℕ) (at next : ℕ) (left : List ℕ) : Type 0 where
@@ -248,9 +205,6 @@ module _ {rest list : List ℕ} {at next : ℕ} {left : List ℕ} (so : StoredSo
   module _ (line : EventField) (e : line ≡ eventAt (take (length rest - at) (drop at rest))) where
     pub stored-fault : (line .fault ≡ 0 → ⊥) → Written (numbersOf (goodEvents (split 10 rest))) 0 list next left
     stored-fault b = rw (events-fault (so .read) line e b) (so .written)
-
-    pub stored-inside : line .fault ≡ 0 → (0 < line .used) × (at + line .used ≤ length rest)
-    stored-inside z = event-inside (so .read) line e z
 
     pub stored-turn : line .fault ≡ 0 → {place : ℕ} {last : List ℕ} → Written (line .first ∷ line .second ∷ line .third ∷ []) next left place last
         → StoredSoFar rest list (at + line .used) place last

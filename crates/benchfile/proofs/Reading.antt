@@ -9,18 +9,18 @@ use Rattle.text.specs.Text.{split}
 use Rattle.text.specs.Writing.{Written}
 use Rattle.text.proofs.Written.{written-fits}
 use Rattle.lines.specs.Lines.{refuse}
+use Rattle.lines.proofs.Ends.{rest-is}
 use Rattle.benchfile.specs.File.{UnitsDue, Refused, Good, steps, readFile}
 use Rattle.benchfile.specs.Calls.{readAnswer, TurnedAway, ReadNumbers, readSays, readContent, readLeaves, ReadPromise}
 use Rattle.benchfile.specs.Calls.{numbersOf, contentOf, noContent}
-use Rattle.benchfile.specs.Steps.{HeadingRead, EventsCounted, goodEvents, withEvents}
+use Rattle.benchfile.specs.Steps.{BadLine, HeadingRead, EventsCounted, goodEvents, withEvents}
 use Rattle.benchfile.specs.declared.Content.{Content}
 use Rattle.benchfile.specs.declared.ReadAnswer.{ReadAnswer}
 use Rattle.benchfile.specs.declared.ReadReply.{ReadReply}
 use Rattle.benchfile.specs.declared.ReadReply.the-variants.{Read, ListTooShort, FileTooLong}
 use Rattle.benchfile.specs.declared.heading.Heading.{Heading}
 use Rattle.benchfile.specs.declared.events.Tally.{Tally}
-use Rattle.benchfile.proofs.Lines.{part-is}
-use Rattle.benchfile.proofs.EventLines.{numbers-length}
+use Rattle.benchfile.proofs.Contents.{numbers-length}
 
 -- turned away: the list stays
 turned : {file list : List ℕ} {r : ReadAnswer} {reply : ReadReply} {refusal : List ℕ} → readFile (length list) file ≡ Refused refusal
@@ -31,6 +31,15 @@ turned e a (reply, content) = record {
   content = rw e content;
   leaves = rw e;
 }
+
+-- the events behind the heading
+module _ {file : List ℕ} {head : Heading} (h : HeadingRead file head) (z : head .fault ≡ 0) {tally : Tally}
+    (part : EventsCounted (take (length file - head .at) (drop (head .at) file)) tally) where
+  counted-part : EventsCounted (drop (head .at) file) tally
+  counted-part = rw rest-is at part
+
+  pub events-bad : (tally .fault ≡ 0 → ⊥) → BadLine (steps 1 (split 10 file) UnitsDue) (tally .fault) (head .line + tally .count)
+  events-bad b = rw (h .goes z .5) (counted-part .refused b (head .line) _ _ _)
 
 module _ (file list : List ℕ) where
   pub too-short : length list < 9000 → {r : ReadAnswer} → (r .reply ≡ ListTooShort) × (r .content ≡ noContent) → ReadPromise file list r list
@@ -47,38 +56,29 @@ module _ (file list : List ℕ) where
       unfolding readFile refuse
       by-steps = simp (le-ltb (length list) 9000 lent, le-ltb 32768 (length file) fits)
 
-      module _ {head : Heading} (h : HeadingRead file head) where
-        pub heading-turned : (head .fault ≡ 0 → ⊥) → {reply : ReadReply} {r : ReadAnswer}
-            → (3 ≤ head .fault → head .fault ≤ 9 → readAnswer reply ≡ TurnedAway (head .fault ∷ head .line ∷ []))
-            → (r .reply ≡ reply) × (r .content ≡ noContent) → ReadPromise file list r list
-        heading-turned b said facts = turned (by-steps ∙ h .refused b) (said (h .known b .0) (h .known b .1)) facts
+      -- by the fault of a line
+      pub line-turned : {f k : ℕ} → BadLine (steps 1 (split 10 file) UnitsDue) f k → {reply : ReadReply} {r : ReadAnswer}
+          → (3 ≤ f → f ≤ 9 → readAnswer reply ≡ TurnedAway (f ∷ k ∷ [])) → (r .reply ≡ reply) × (r .content ≡ noContent) → ReadPromise file list r list
+      line-turned bad said facts = turned (by-steps ∙ bad .ends) (said (bad .low) (bad .high)) facts
 
-        module _ (z : head .fault ≡ 0) {tally : Tally} (part : EventsCounted (take (length file - head .at) (drop (head .at) file)) tally) where
-          counted-part : EventsCounted (drop (head .at) file) tally
-          counted-part = rw part-is at part
-
-          pub events-turned : (tally .fault ≡ 0 → ⊥) → {reply : ReadReply} {r : ReadAnswer}
-              → (3 ≤ tally .fault → tally .fault ≤ 9 → readAnswer reply ≡ TurnedAway (tally .fault ∷ (head .line + tally .count) ∷ []))
-              → (r .reply ≡ reply) × (r .content ≡ noContent) → ReadPromise file list r list
-          events-turned b said facts =
-              turned (by-steps ∙ h .goes z .5 ∙ counted-part .refused b (head .line) _ _ _) (said (part .known b .0) (part .known b .1)) facts
-
-          pub file-read : tally .fault ≡ 0 → {numbers : ℕ} {left : List ℕ} {content : Content}
-              → Written (numbersOf (goodEvents (split 10 (take (length file - head .at) (drop (head .at) file))))) 0 list numbers left
-              → content ≡ withEvents (head .content) (tally .count)
-              → ReadPromise file list (record { reply = Read numbers (head .line - 1); content = content }) left
-          unfolding readAnswer readSays readContent readLeaves withEvents contentOf
-          file-read y {numbers} {left} {content} w e =
-              let rest = drop (head .at) file in let es = goodEvents (split 10 rest) in
-              let goes = h .goes z in let n = goes .0 in let gs = goes .1 in let ps = goes .2 in
-              let said : readFile (length list) file ≡ Good (record { units = n; groups = gs; parents = ps; events = es }) =
-                by-steps ∙ goes .5 ∙ counted-part .good y (head .line) n gs ps in
-              let whole : Written (numbersOf es) 0 list numbers left = rw part-is at w in
-              let many : tally .count ≡ length es = counted-part .count y in
-              let long : length (numbersOf es) ≡ 3 * length es = numbers-length es in
-              let fit = written-fits whole (omega (arith, counted-part .few)) in
-              let line : head .line - 1 ≡ 3 + length gs = omega (arith, goes .3) in record {
-                answers = rw said (λ i. ReadNumbers ((fit .0 ∙ long) i) (line i));
-                content = rw said (e ∙ (λ i. withEvents (goes .4 i) (many i)));
-                leaves = rw said (fit .1 ∙ ap (λ (k : ℕ). numbersOf es ++ drop k list) long);
-              }
+      pub file-read : {head : Heading} (h : HeadingRead file head) (z : head .fault ≡ 0) {tally : Tally}
+          (part : EventsCounted (take (length file - head .at) (drop (head .at) file)) tally) → tally .fault ≡ 0
+          → {numbers : ℕ} {left : List ℕ} {content : Content}
+          → Written (numbersOf (goodEvents (split 10 (take (length file - head .at) (drop (head .at) file))))) 0 list numbers left
+          → content ≡ withEvents (head .content) (tally .count)
+          → ReadPromise file list (record { reply = Read numbers (head .line - 1); content = content }) left
+      unfolding readAnswer readSays readContent readLeaves withEvents contentOf
+      file-read {head} h z {tally} part y {numbers} {left} {content} w e =
+          let counted = counted-part h z part in let rest = drop (head .at) file in let es = goodEvents (split 10 rest) in
+          let goes = h .goes z in let n = goes .0 in let gs = goes .1 in let ps = goes .2 in
+          let said : readFile (length list) file ≡ Good (record { units = n; groups = gs; parents = ps; events = es }) =
+            by-steps ∙ goes .5 ∙ counted .good y (head .line) n gs ps in
+          let whole : Written (numbersOf es) 0 list numbers left = rw rest-is at w in
+          let many : tally .count ≡ length es = counted .count y in
+          let long : length (numbersOf es) ≡ 3 * length es = numbers-length es in
+          let fit = written-fits whole (omega (arith, counted .few)) in
+          let line : head .line - 1 ≡ 3 + length gs = omega (arith, goes .3) in record {
+            answers = rw said (λ i. ReadNumbers ((fit .0 ∙ long) i) (line i));
+            content = rw said (e ∙ (λ i. withEvents (goes .4 i) (many i)));
+            leaves = rw said (fit .1 ∙ ap (λ (k : ℕ). numbersOf es ++ drop k list) long);
+          }

@@ -1,7 +1,7 @@
 -- A bench file that is read and one that is written: every good file is written again as it was, and everything that a file can say is read back.
 use mathlib.Core.Path.{_≡_, refl, sym, ap, _∙_}
 use mathlib.Core.Bool.{Bool, true, false}
-use mathlib.Core.List.{List, [], _∷_, _++_, map, append-nil, append-assoc}
+use mathlib.Core.List.{List, [], _∷_, _++_, map, append-nil, append-assoc, map-append}
 use Prim.Native.Nat.{ℕ, zero, suc, _+_, _≤_, _<_, zero-le, suc-le-suc}
 use native.Mathlib.Nat.{le-of-suc-le-suc, not-suc-le-zero}
 use native.Mathlib.Omega.{arith}
@@ -14,12 +14,13 @@ use Rattle.text.proofs.Pieces.{AllWithout, none, more, split-append, join-split
 use Rattle.lines.specs.Lines.{refuse, unitsKey, groupsKey, countIn, unitsFault, groupsFault, groupFault, groupIn, parentsFault, parentsIn, eventFault, eventIn}
 use Rattle.lines.specs.Lines.{countLine, groupLine, parentsLine, eventLine, Event, Arrive}
 use Rattle.lines.specs.Good.{GoodGroup, GoodEvent}
-use Rattle.lines.proofs.Values.{map-without}
+use Rattle.lines.proofs.Values.{map-without, texts-without}
 use Rattle.lines.proofs.RoundTrip.{count-said, group-said, parents-said, event-said, count-read, group-read, parents-read, event-read}
 use Rattle.lines.proofs.RoundTrip.{units-without, groups-without, group-without, parents-without, event-without}
 use Rattle.benchfile.specs.File.{File, State, UnitsDue, GroupsDue, GroupDue, EventDue, Stopped, next, step}
 use Rattle.benchfile.specs.File.{Outcome, Refused, Good, finish, steps, readFile, linesOf, ended, textOf}
 use Rattle.benchfile.specs.Claims.{GoodFile}
+use Rattle.benchfile.proofs.WrittenLines.{ended-append}
 
 -- ---- lists
 
@@ -40,18 +41,7 @@ module _ {A : Type 0} (P : A → Type 0) (d : A) where
   all-snoc (y ∷ xs) x h p zero l = h zero (suc-le-suc zero-le)
   all-snoc (y ∷ xs) x h p (suc i) l = all-snoc xs x (all-tail y xs h) p i (le-of-suc-le-suc l)
 
-map-snoc : {A B : Type 0} (f : A → B) (xs : List A) (x : A) → map f (xs ++ x ∷ []) ≡ map f xs ++ f x ∷ []
-map-snoc f [] x = refl
-map-snoc f (y ∷ xs) x = rw (map-snoc f xs x)
-
 -- ---- lines with their LFs
-
-ended-snoc : (ls : List (List ℕ)) (line t : List ℕ) → ended (ls ++ line ∷ []) ++ t ≡ ended ls ++ (line ++ 10 ∷ t)
-unfolding ended
-ended-snoc [] line t = append-assoc line (10 ∷ []) t
-ended-snoc (l ∷ ls) line t =
-    append-assoc l (10 ∷ ended (ls ++ line ∷ [])) t ∙ ap (λ (s : List ℕ). l ++ 10 ∷ s) (ended-snoc ls line t)
-    ∙ sym (append-assoc l (10 ∷ ended ls) (line ++ 10 ∷ t))
 
 split-ended : (ls : List (List ℕ)) → AllWithout 10 ls → split 10 (ended ls) ≡ ls ++ [] ∷ []
 unfolding ended split
@@ -119,12 +109,12 @@ reached-step k ls line (GroupDue n (suc due) gs) (e, least, most, count, group) 
     let l : length (gs ++ g ∷ []) + due ≡ length gs + suc due = omega (arith, length-append gs (g ∷ []))
     in reached-next (ls ++ line ∷ []) (groupFault n line) k (GroupDue n due (gs ++ g ∷ [])) (λ h.
     let c = group-said n line most h
-    in (rw (e, l, map-snoc groupLine gs g, c .0), least, most, rw l count, all-snoc (GoodGroup n) 0 gs g group (c .1)))
+    in (rw (e, l, map-append groupLine gs (g ∷ []), c .0), least, most, rw l count, all-snoc (GoodGroup n) 0 gs g group (c .1)))
 reached-step k ls line (EventDue n gs ps es) (e, good) =
     let v = eventIn line in
     reached-next (ls ++ line ∷ []) (eventFault (length es) line) k (EventDue n gs ps (es ++ v ∷ [])) (λ h.
     let c = event-said (length es) line h
-    in (rw (map-snoc eventLine es v, c .0, ← e, append-assoc), record {
+    in (rw (map-append eventLine es (v ∷ []), c .0, ← e, append-assoc), record {
       least = good .least; most = good .most; count = good .count; group = good .group; parents = good .parents;
       total = omega (arith, length-append es (v ∷ []), c .2);
       event = all-snoc GoodEvent (Arrive 0) es v (good .event) (c .1) }))
@@ -142,12 +132,13 @@ finish-said k rest ls (Stopped refusal) r = tt
 
 steps-said : (k : ℕ) (pieces ls : List (List ℕ)) (s : State) → Reached ls s
     → IfGood (WithText (ended ls ++ join 10 pieces)) (steps k pieces s)
-unfolding steps join
+unfolding steps join ended
 steps-said k [] ls s r = finish-said k [] ls s r
 steps-said k (rest ∷ []) ls s r = finish-said k rest ls s r
 steps-said k (line ∷ l ∷ pieces) ls s r =
-    rw (← ended-snoc ls line (join 10 (l ∷ pieces)))
-    (steps-said (suc k) (l ∷ pieces) (ls ++ line ∷ []) (step k line s) (reached-step k ls line s r))
+    let rest = join 10 (l ∷ pieces) in
+    let e : ended (ls ++ line ∷ []) ++ rest ≡ ended ls ++ (line ++ 10 ∷ rest) = rw (ended-append ls (line ∷ [])) (simp append-assoc) in
+    rw (← e) (steps-said (suc k) (l ∷ pieces) (ls ++ line ∷ []) (step k line s) (reached-step k ls line s r))
 
 read-said : (lent : ℕ) (file : List ℕ)
     → IfGood (λ F. (textOf F ≡ file) × GoodFile F × (9000 ≤ lent) × (length file ≤ 32768)) (readFile lent file)
@@ -177,7 +168,7 @@ unfolding linesOf
 lines-without F =
     more (units-without (F .units)) (more (groups-without (length (F .groups)))
     (map-without 10 groupLine (F .groups) (parentsLine (F .parents) ∷ map eventLine (F .events)) group-without
-    (more (parents-without (F .parents)) (rw append-nil at (map-without 10 eventLine (F .events) [] event-without none)))))
+    (more (parents-without (F .parents)) (texts-without 10 eventLine (F .events) event-without))))
 
 -- these lines lead from the state to the file, whatever number the first has
 abbrev Leads : List (List ℕ) → State → File → Type 0

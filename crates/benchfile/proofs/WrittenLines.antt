@@ -16,14 +16,10 @@ use Rattle.benchfile.specs.Calls.{eventsFrom}
 
 -- ---- lines with their LFs
 
-ended-append : (xs ys : List (List ℕ)) → ended (xs ++ ys) ≡ ended xs ++ ended ys
+pub ended-append : (xs ys : List (List ℕ)) → ended (xs ++ ys) ≡ ended xs ++ ended ys
 unfolding ended
 ended-append [] ys = refl
 ended-append (x ∷ xs) ys = rw (ended-append xs ys) (sym (append-assoc x (10 ∷ ended xs) (ended ys)))
-
-ended-cons : (x : List ℕ) (xs : List (List ℕ)) → ended (x ∷ xs) ≡ (x ++ 10 ∷ []) ++ ended xs
-unfolding ended
-ended-cons x xs = sym (append-assoc x (10 ∷ []) (ended xs))
 
 -- ---- one line after the others
 
@@ -43,16 +39,6 @@ module _ {list mid left : List ℕ} {at place next : ℕ} where
 
 -- ---- a file
 
-text-parts : (F : File)
-    → textOf F ≡ (countLine unitsKey (F .units) ++ 10 ∷ []) ++ ((countLine groupsKey (length (F .groups)) ++ 10 ∷ [])
-    ++ (ended (map groupLine (F .groups)) ++ ((parentsLine (F .parents) ++ 10 ∷ []) ++ ended (map eventLine (F .events)))))
-unfolding textOf linesOf
-text-parts F =
-    ended-append (countLine unitsKey (F .units) ∷ countLine groupsKey (length (F .groups)) ∷ map groupLine (F .groups))
-    (parentsLine (F .parents) ∷ map eventLine (F .events))
-    ∙ rw (ended-cons (countLine unitsKey (F .units)) _, ended-cons (countLine groupsKey (length (F .groups))) _,
-      ended-cons (parentsLine (F .parents)) _) (simp append-assoc)
-
 pub written-file : (F : File) {list l₁ l₂ l₃ l₄ left : List ℕ} {at a b c d place : ℕ}
     → Written (countLine unitsKey (F .units) ++ 10 ∷ []) at list a l₁
     → Written (countLine groupsKey (length (F .groups)) ++ 10 ∷ []) a l₁ b l₂
@@ -60,8 +46,10 @@ pub written-file : (F : File) {list l₁ l₂ l₃ l₄ left : List ℕ} {at a b
     → Written (parentsLine (F .parents) ++ 10 ∷ []) c l₃ d l₄
     → Written (ended (map eventLine (F .events))) d l₄ place left
     → Written (textOf F) at list place left
+unfolding textOf linesOf ended
 written-file F u g gs p es =
-    rw (text-parts F) (written-append u (written-append g (written-append gs (written-append p es))))
+    rw (ended-append (map groupLine (F .groups)) (parentsLine (F .parents) ∷ map eventLine (F .events)))
+    (simp append-assoc at (written-append u (written-append g (written-append gs (written-append p es)))))
 
 -- ---- the events of a list of numbers
 

@@ -8,7 +8,7 @@ use lib.Dec.{eqb}
 use Rattle.layout.specs.Tables.{tabulate}
 use Rattle.text.specs.Text.{split}
 use Rattle.lines.specs.Lines.{Parents, Event, eventFault, eventIn}
-use Rattle.benchfile.specs.File.{UnitsDue, GroupDue, EventDue, Refused, Good, steps}
+use Rattle.benchfile.specs.File.{Outcome, UnitsDue, GroupDue, EventDue, Refused, Good, steps}
 use Rattle.benchfile.specs.Calls.{contentOf}
 use Rattle.benchfile.specs.declared.Content.{Content}
 use Rattle.benchfile.specs.declared.heading.Counts.{Counts}
@@ -16,22 +16,24 @@ use Rattle.benchfile.specs.declared.heading.Groups.{Groups}
 use Rattle.benchfile.specs.declared.heading.Heading.{Heading}
 use Rattle.benchfile.specs.declared.events.Tally.{Tally}
 
+-- the reading ends at line k: its fault is a number from 3 to 9
+pub record BadLine (o : Outcome) (fault k : ℕ) : Type 0 where
+  pub low : 3 ≤ fault
+  pub high : fault ≤ 9
+  pub ends : o ≡ Refused (fault ∷ k ∷ [])
+
 -- ---- the lines before the events
 
 -- `units=` and `groups=` of a file were read
 pub record CountsRead (file : List ℕ) (r : Counts) : Type 0 where
-  pub refused : (r .fault ≡ 0 → ⊥) → steps 1 (split 10 file) UnitsDue ≡ Refused (r .fault ∷ r .line ∷ [])
-  pub known : (r .fault ≡ 0 → ⊥) → (3 ≤ r .fault) × (r .fault ≤ 9)
+  pub refused : (r .fault ≡ 0 → ⊥) → BadLine (steps 1 (split 10 file) UnitsDue) (r .fault) (r .line)
   pub inside : r .at ≤ length file
-  pub least : r .fault ≡ 0 → 1 ≤ r .units
-  pub most : r .units ≤ 32
   pub count : r .count ≤ 24
   pub goes : r .fault ≡ 0 → steps 1 (split 10 file) UnitsDue ≡ steps 3 (split 10 (drop (r .at) file)) (GroupDue (r .units) (r .count) [])
 
 -- the lines `group=` were read, at the start of the rest of a file, as many as are due
 pub record GroupsRead (rest : List ℕ) (units count : ℕ) (r : Groups) : Type 0 where
-  pub refused : (r .fault ≡ 0 → ⊥) → (k : ℕ) → steps k (split 10 rest) (GroupDue units count []) ≡ Refused (r .fault ∷ (k + r .read) ∷ [])
-  pub known : (r .fault ≡ 0 → ⊥) → (3 ≤ r .fault) × (r .fault ≤ 9)
+  pub refused : (r .fault ≡ 0 → ⊥) → (k : ℕ) → BadLine (steps k (split 10 rest) (GroupDue units count [])) (r .fault) (k + r .read)
   pub inside : r .at ≤ length rest
   pub few : r .read ≤ count
   pub goes : r .fault ≡ 0 → (gs : List ℕ) × (length gs ≡ count) × (r .sets ≡ tabulate 24 (λ i. getD gs i 0))
@@ -39,8 +41,7 @@ pub record GroupsRead (rest : List ℕ) (units count : ℕ) (r : Groups) : Type 
 
 -- all lines before the events were read; `line` is the next line
 pub record HeadingRead (file : List ℕ) (r : Heading) : Type 0 where
-  pub refused : (r .fault ≡ 0 → ⊥) → steps 1 (split 10 file) UnitsDue ≡ Refused (r .fault ∷ r .line ∷ [])
-  pub known : (r .fault ≡ 0 → ⊥) → (3 ≤ r .fault) × (r .fault ≤ 9)
+  pub refused : (r .fault ≡ 0 → ⊥) → BadLine (steps 1 (split 10 file) UnitsDue) (r .fault) (r .line)
   pub inside : r .at ≤ length file
   pub short : r .fault ≡ 0 → r .line ≤ 28
   pub goes : r .fault ≡ 0 → (n : ℕ) × (gs : List ℕ) × (ps : Parents) × (r .line ≡ 4 + length gs)
@@ -58,8 +59,7 @@ goodEvents (line ∷ l ∷ ls) = let more = goodEvents (l ∷ ls) in cond (eqb (
 -- the events at the start of the rest of a file were counted
 pub record EventsCounted (rest : List ℕ) (r : Tally) : Type 0 where
   pub refused : (r .fault ≡ 0 → ⊥) → (k n : ℕ) (gs : List ℕ) (ps : Parents)
-      → steps k (split 10 rest) (EventDue n gs ps []) ≡ Refused (r .fault ∷ (k + r .count) ∷ [])
-  pub known : (r .fault ≡ 0 → ⊥) → (3 ≤ r .fault) × (r .fault ≤ 9)
+      → BadLine (steps k (split 10 rest) (EventDue n gs ps [])) (r .fault) (k + r .count)
   pub few : r .count ≤ 3000
   pub count : r .fault ≡ 0 → r .count ≡ length (goodEvents (split 10 rest))
   pub good : r .fault ≡ 0 → (k n : ℕ) (gs : List ℕ) (ps : Parents)

@@ -1,7 +1,7 @@
 -- Laws of parents: entries one after the other say what the rules say of them all, and what a line says. Assumes nothing.
 use mathlib.Core.Path.{_≡_, refl, sym, ap, _∙_}
 use mathlib.Core.Bool.{true, false, not}
-use mathlib.Core.List.{List, [], _∷_, map, foldl}
+use mathlib.Core.List.{List, [], _∷_, _++_, map, foldl}
 use Prim.Native.Nat.{ℕ, zero, suc, _+_, _-_, _≤_, _<_, zero-le}
 use native.Mathlib.Nat.{lt-irrefl}
 use native.Mathlib.Numerals.{add-one}
@@ -29,7 +29,14 @@ sets-behind : (x : ℕ) (vs l : List ℕ) (at : ℕ) → sets (x ∷ l) (suc at)
 sets-behind x [] l at = refl
 sets-behind x (v ∷ vs) l at = sets-behind x vs (set l at v) (suc at)
 
-sets-table : (n d : ℕ) (vs : List ℕ) → sets (replicate n d) 0 vs ≡ tabulate n (λ u. getD vs u d)
+-- one more behind those set
+pub sets-snoc : (vs l : List ℕ) (at v : ℕ) → sets l at (vs ++ v ∷ []) ≡ set (sets l at vs) (at + length vs) v
+sets-snoc [] l at v = let e : at ≡ at + 0 = omega arith in ap (λ (i : ℕ). set l i v) e
+sets-snoc (w ∷ vs) l at v =
+    let e : suc at + length vs ≡ at + suc (length vs) = omega arith in
+    sets-snoc vs (set l at w) (suc at) v ∙ ap (λ (i : ℕ). set (sets l at (w ∷ vs)) i v) e
+
+pub sets-table : (n d : ℕ) (vs : List ℕ) → sets (replicate n d) 0 vs ≡ tabulate n (λ u. getD vs u d)
 unfolding tabulate
 sets-table zero d vs = sets-end vs [] 0 zero-le
 sets-table (suc n) d [] = ap (λ (l : List ℕ). d ∷ l) (sets-table n d [])

@@ -20,10 +20,14 @@ use Rattle.lines.specs.Lines.{refuse, countIn, countFault}
 use Rattle.lines.specs.Fields.{firstLine, faultAt, endAt, noField, fieldAt}
 
 -- a part of a list
-pub part-is : (a e : ℕ) (l : List ℕ) → a ≤ e → a ≤ length l → take (e - a) (drop a l) ≡ drop a (take e l)
+part-is : (a e : ℕ) (l : List ℕ) → a ≤ e → a ≤ length l → take (e - a) (drop a l) ≡ drop a (take e l)
 part-is a e l h r =
     let s : e ≡ a + (e - a) = omega arith
     in sym (ap (λ (k : ℕ). drop a (take k l)) s ∙ ap (drop a) (take-add a (e - a) l) ∙ drop-at (take a l) _ a (length-take-le a l r))
+
+-- the code's part from a place on
+pub rest-is : (a : ℕ) (l : List ℕ) → take (length l - a) (drop a l) ≡ drop a l
+rest-is a l = take-all (length l - a) (drop a l) (omega (arith, length-drop a l))
 
 -- ---- the end of the line
 
@@ -34,7 +38,7 @@ pub record Found (key rest : List ℕ) (end : ℕ) : Type 0 where
   pub inside : placeOf 10 rest < length rest
   pub room : length key ≤ placeOf 10 rest
 
-pub line-length : (rest : List ℕ) → length (firstLine rest) ≡ placeOf 10 rest
+line-length : (rest : List ℕ) → length (firstLine rest) ≡ placeOf 10 rest
 unfolding firstLine
 line-length rest = length-take-le (placeOf 10 rest) rest (place-le 10 rest)
 
@@ -116,7 +120,7 @@ module _ {S : Type 0} {add : S → ℕ → S} {first : S} {read : List ℕ → �
     -- one turn: the comma, or the end, is n places after `at`
     module _ {n : ℕ} (inside : at ≤ length v) (found : n ≡ placeOf 44 (take (length v - at) (drop at v))) where
       turn-place : n ≡ placeOf 44 (drop at v)
-      turn-place = found ∙ ap (placeOf 44) (take-all (length v - at) (drop at v) (omega (arith, length-drop at v)))
+      turn-place = found ∙ ap (placeOf 44) (rest-is at v)
 
       pub reading-within : at + n ≤ length v
       reading-within = omega (arith, turn-place, place-le 44 (drop at v), length-drop at v)

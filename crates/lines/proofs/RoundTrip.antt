@@ -7,7 +7,8 @@ use mathlib.Core.List.{List, [], _∷_, _++_, map, cons≢nil}
 use Prim.Native.Nat.{ℕ, suc, _≤_, _<_, suc-le-suc}
 use native.Mathlib.Nat.{lt-irrefl, lt-of-lt-of-le}
 use native.Mathlib.Omega.{arith}
-use lib.ListN.{length, getD, length-map}
+use lib.ListN.{length, getD, length-map, drop-of-length-le}
+use lib.Seq.{drop-cons}
 use lib.Dec.{ltb, leb, eqb}
 use lib.Pow.{pow-mono}
 use borrow.Author.Tests.{le-ltb, lt-leb, eq-eqb, ltb-false, leb-false, eqb-true, not-false}
@@ -53,12 +54,9 @@ count-fault-number key least most line =
 
 -- ---- an event
 
-three-numbers : (ns : List ℕ) → length ns ≡ 3 → ns ≡ getD ns 0 0 ∷ getD ns 1 0 ∷ getD ns 2 0 ∷ []
-three-numbers [] e = absurd (lt-irrefl 0 (omega arith))
-three-numbers (a ∷ []) e = absurd (lt-irrefl 0 (omega arith))
-three-numbers (a ∷ b ∷ []) e = absurd (lt-irrefl 0 (omega arith))
-three-numbers (a ∷ b ∷ c ∷ []) e = refl
-three-numbers (a ∷ b ∷ c ∷ d ∷ ns) e = absurd (lt-irrefl 0 (omega arith))
+pub three-numbers : (ns : List ℕ) → length ns ≡ 3 → ns ≡ getD ns 0 0 ∷ getD ns 1 0 ∷ getD ns 2 0 ∷ []
+three-numbers ns e =
+    drop-cons ns 0 0 (omega arith) ∙ cc (drop-cons ns 1 0 (omega arith), drop-cons ns 2 0 (omega arith), drop-of-length-le ns {i = 3} (omega arith))
 
 no-bad-three : (a b c : ℕ) → a < 65536 → b < 65536 → c < 65536 → some isBad (a ∷ b ∷ c ∷ []) ≡ false
 unfolding some isBad

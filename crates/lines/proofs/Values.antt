@@ -23,8 +23,8 @@ pub map-without : {A : Type 0} (c : ℕ) (f : A → List ℕ) (xs : List A) (ls 
 map-without c f [] ls w r = r
 map-without c f (x ∷ xs) ls w r = more (w x) (map-without c f xs ls w r)
 
-texts-without : (c : ℕ) (write : ℕ → List ℕ) (ns : List ℕ) → ((n : ℕ) → Without c (write n)) → AllWithout c (map write ns)
-texts-without c write ns w = rw append-nil at (map-without c write ns [] w none)
+pub texts-without : {A : Type 0} (c : ℕ) (f : A → List ℕ) (xs : List A) → ((x : A) → Without c (f x)) → AllWithout c (map f xs)
+texts-without c f xs w = rw append-nil at (map-without c f xs [] w none)
 
 pub commas-without : (c : ℕ) (write : ℕ → List ℕ) (ns : List ℕ) → eqb 44 c ≡ false → ((n : ℕ) → Without c (write n))
     → Without c (commas (map write ns))

@@ -1,7 +1,7 @@
 -- Each way through `read` is a case of the rules: turned away, or read.
 use borrow.Author.Needs.{needs}
 use native.Mathlib.Omega.{arith}
-use Rattle.benchfile.proofs.Reading.{too-short, too-long, heading-turned, events-turned, file-read}
+use Rattle.benchfile.proofs.Reading.{too-short, too-long, events-bad, line-turned, file-read}
 use Rattle.benchfile.proofs.read.Statement.{statement}
 use Rattle.benchfile.proofs.read.Tie as tie
 
@@ -29,7 +29,7 @@ turned-away-requires-3 c κs = search needs
 returns-3 : tie.Need-returns-3
 returns-3 c =
     let head = c .before .before .before .before in let start = head .before in
-    heading-turned _ _ (start .before .if1 .left) (start .if2 .left) (head .read-heading .ensures) (c .before .before .if3 .taken)
+    line-turned _ _ (start .before .if1 .left) (start .if2 .left) (head .read-heading .ensures .refused (c .before .before .if3 .taken))
     (c .before .fault-reply .ensures) (c .turned-away3 .ensures)
 
 sub-counted : tie.Need-sub-counted
@@ -61,8 +61,9 @@ turned-away-requires-4 c κs = search needs
 returns-4 : tie.Need-returns-4
 returns-4 c =
     let tally = c .before .before .before .before .before .before in let head = tally .before .before .before .before in let start = head .before in
-    events-turned _ _ (start .before .if1 .left) (start .if2 .left) (head .read-heading .ensures) (tally .before .before .if3 .left) (tally .counted .ensures)
-    (c .before .before .before .before .if4 .taken) (c .before .fault-reply2 .ensures) (c .turned-away4 .ensures)
+    line-turned _ _ (start .before .if1 .left) (start .if2 .left)
+    (events-bad (head .read-heading .ensures) (tally .before .before .if3 .left) (tally .counted .ensures) (c .before .before .before .before .if4 .taken))
+    (c .before .fault-reply2 .ensures) (c .turned-away4 .ensures)
 
 sub-store : tie.Need-sub-store
 sub-store c = search needs

@@ -1,9 +1,9 @@
 -- The loop's invariant: so many events were counted, and the rest of the text decides what is still to come.
 use borrow.Author.Needs.{needs}
-use Prim.Native.Nat.{_+_, _-_, _≤_, _<_}
+use Prim.Native.Nat.{_-_}
 use native.Mathlib.Omega.{arith}
 use lib.ListN.{length}
-use Rattle.benchfile.proofs.EventLines.{CountedSoFar, counted-none, counted-fault, counted-full, counted-inside, counted-turn, counted-all}
+use Rattle.benchfile.proofs.EventLines.{CountedSoFar, counted-none, counted-fault, counted-full, event-inside, counted-turn, counted-all}
 use Rattle.benchfile.proofs.events.counted.Statement.{statement}
 use Rattle.benchfile.proofs.events.counted.Tie as tie
 
@@ -38,22 +38,18 @@ returns-2 c =
     let line = c .before .before .before in let turn = line .before .before in
     counted-full (turn .before .loop .inv) (turn .loop-test .taken) _ (line .event .ensures) (c .before .if1 .left) (c .if2 .taken)
 
-step-inside : (c : tie.After-struct-known2 Inv-loop μ-loop)
-    → (0 < c .before .before .before .before .event .result .used)
-    × (c .before .before .before .before .before .before .before .loop .at + c .before .before .before .before .event .result .used
-    ≤ length (c .before .before .before .before .before .before .before .before .before .args .rest .now))
-step-inside c =
-    let line = c .before .before .before .before in let turn = line .before .before in
-    counted-inside (turn .before .loop .inv) (turn .loop-test .taken) _ (line .event .ensures) (c .before .before .if1 .left)
-
 add-at : tie.Need-add-at Inv-loop μ-loop
-add-at c = omega (arith, step-inside c)
+add-at c =
+    let line = c .before .before .before .before in
+    omega (arith, event-inside (line .before .before .before .loop .inv .read) _ (line .event .ensures) (c .before .before .if1 .left))
 
 add-count : tie.Need-add-count Inv-loop μ-loop
 add-count c = omega arith
 
 loop-less : tie.Need-loop-less Inv-loop μ-loop
-loop-less c = omega (arith, step-inside c)
+loop-less c =
+    let line = c .before .before .before .before in
+    omega (arith, event-inside (line .before .before .before .loop .inv .read) _ (line .event .ensures) (c .before .before .if1 .left))
 
 loop-again : tie.Need-loop-again Inv-loop μ-loop
 loop-again c =

@@ -4,7 +4,7 @@ use Prim.Native.Nat.{_-_}
 use native.Mathlib.Omega.{arith}
 use lib.ListN.{length}
 use Rattle.text.proofs.Written.{written-length}
-use Rattle.benchfile.proofs.EventLines.{StoredSoFar, stored-none, stored-fault, stored-inside, stored-turn, stored-all}
+use Rattle.benchfile.proofs.EventLines.{StoredSoFar, stored-none, stored-fault, event-inside, stored-turn, stored-all}
 use Rattle.benchfile.proofs.events.store.Statement.{statement}
 use Rattle.benchfile.proofs.events.store.Tie as tie
 
@@ -41,12 +41,12 @@ put-three-requires c κs = search needs
 add-at : tie.Need-add-at Inv-loop μ-loop
 add-at c =
     let put = c .before .before .before in let line = put .before .before .before .before in
-    omega (arith, stored-inside (line .before .before .before .loop .inv) _ (line .event .ensures) (put .before .before .if1 .left))
+    omega (arith, event-inside (line .before .before .before .loop .inv .read) _ (line .event .ensures) (put .before .before .if1 .left))
 
 loop-less : tie.Need-loop-less Inv-loop μ-loop
 loop-less c =
     let put = c .before .before .before in let line = put .before .before .before .before in
-    omega (arith, stored-inside (line .before .before .before .loop .inv) _ (line .event .ensures) (put .before .before .if1 .left))
+    omega (arith, event-inside (line .before .before .before .loop .inv .read) _ (line .event .ensures) (put .before .before .if1 .left))
 
 loop-again : tie.Need-loop-again Inv-loop μ-loop
 loop-again c =

@@ -1,7 +1,7 @@
 -- The two counts are read one after the other.
 use borrow.Author.Needs.{needs}
 use native.Mathlib.Omega.{arith}
-use Rattle.benchfile.proofs.HeadingLines.{first-refused, first-inside, first-limits, second-refused, second-inside, second-limits, counts-read}
+use Rattle.benchfile.proofs.HeadingLines.{counts-refused, first-bad, first-inside, first-most, second-bad, second-inside, second-most, counts-read}
 use Rattle.benchfile.proofs.heading.read_counts.Statement.{statement}
 use Rattle.benchfile.proofs.heading.read_counts.Tie as tie
 
@@ -12,7 +12,7 @@ no-counts-requires : tie.Need-no-counts-requires
 no-counts-requires c κs = search needs
 
 returns : tie.Need-returns
-returns c = first-refused _ _ (c .before .before .before .units .ensures) (c .before .if1 .taken) (c .no-counts .ensures)
+returns c = counts-refused (first-bad _ _ (c .before .before .before .units .ensures) (c .before .if1 .taken)) (c .no-counts .ensures)
 
 sub-groups : tie.Need-sub-groups
 sub-groups c = first-inside _ _ (c .before .before .units .ensures) (c .if1 .left)
@@ -32,7 +32,7 @@ no-counts-requires-2 c κs = search needs
 returns-2 : tie.Need-returns-2
 returns-2 c =
     let second = c .before .before .before in let turn = second .before .before in
-    second-refused _ _ (turn .before .before .units .ensures) (turn .if1 .left) _ (second .groups .ensures) (c .before .if2 .taken)
+    counts-refused (second-bad _ _ (turn .before .before .units .ensures) (turn .if1 .left) _ (second .groups .ensures) (c .before .if2 .taken))
     (c .no-counts2 .ensures)
 
 add-t7 : tie.Need-add-t7
@@ -43,12 +43,12 @@ add-t7 c =
 cast-t10 : tie.Need-cast-t10
 cast-t10 c =
     let turn = c .before .before .before .before .before .before in
-    omega (arith, first-limits _ _ (turn .before .before .units .ensures) (turn .if1 .left))
+    omega (arith, first-most _ _ (turn .before .before .units .ensures) (turn .if1 .left))
 
 cast-t11 : tie.Need-cast-t11
 cast-t11 c =
     let second = c .before .before .before .before .before in let turn = second .before .before in
-    omega (arith, second-limits _ _ (turn .before .before .units .ensures) (turn .if1 .left) _ (second .groups .ensures) (c .before .before .before .if2 .left))
+    omega (arith, second-most _ _ (turn .before .before .units .ensures) (turn .if1 .left) _ (second .groups .ensures) (c .before .before .before .if2 .left))
 
 returns-3 : tie.Need-returns-3
 returns-3 c =

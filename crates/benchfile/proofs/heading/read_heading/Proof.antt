@@ -1,7 +1,7 @@
 -- The lines before the events are read one after the other.
 use borrow.Author.Needs.{needs}
 use native.Mathlib.Omega.{arith}
-use Rattle.benchfile.proofs.HeadingLines.{counts-fault, groups-fault, drawing-fault, drawing-inside, heading-read}
+use Rattle.benchfile.proofs.HeadingLines.{heading-refused, groups-bad, drawing-bad, drawing-inside, heading-read}
 use Rattle.benchfile.proofs.heading.read_heading.Statement.{statement}
 use Rattle.benchfile.proofs.heading.read_heading.Tie as tie
 
@@ -12,7 +12,7 @@ no-heading-requires : tie.Need-no-heading-requires
 no-heading-requires c κs = search needs
 
 returns : tie.Need-returns
-returns c = counts-fault (c .before .before .before .read-counts .ensures) (c .before .if1 .taken) (c .no-heading .ensures)
+returns c = heading-refused (c .before .before .before .read-counts .ensures .refused (c .before .if1 .taken)) (c .no-heading .ensures)
 
 sub-group-lines : tie.Need-sub-group-lines
 sub-group-lines c = search needs
@@ -35,7 +35,8 @@ no-heading-requires-2 c κs = search needs
 returns-2 : tie.Need-returns-2
 returns-2 c =
     let found = c .before .before .before .before in let first = found .before .before in
-    groups-fault (first .before .before .read-counts .ensures) (first .if1 .left) (found .group-lines .ensures) (c .before .before .if2 .taken)
+    heading-refused
+    (groups-bad (first .before .before .read-counts .ensures) (first .if1 .left) (found .group-lines .ensures) (c .before .before .if2 .taken))
     (c .no-heading2 .ensures)
 
 add-at : tie.Need-add-at
@@ -65,8 +66,9 @@ no-heading-requires-3 c κs = search needs
 returns-3 : tie.Need-returns-3
 returns-3 c =
     let drawn = c .before .before .before .before in let found = drawn .before .before .before .before .before in let first = found .before .before in
-    drawing-fault (first .before .before .read-counts .ensures) (first .if1 .left) (found .group-lines .ensures) (drawn .before .before .before .if2 .left)
-    (drawn .parents .ensures) (c .before .before .if3 .taken) (c .no-heading3 .ensures)
+    heading-refused
+    (drawing-bad (first .before .before .read-counts .ensures) (first .if1 .left) (found .group-lines .ensures) (drawn .before .before .before .if2 .left)
+    (drawn .parents .ensures) (c .before .before .if3 .taken)) (c .no-heading3 .ensures)
 
 cast-t11 : tie.Need-cast-t11
 cast-t11 c = search needs

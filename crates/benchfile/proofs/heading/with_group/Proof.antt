@@ -1,7 +1,6 @@
--- A place past the groups changes nothing.
+-- Past the end nothing changes.
 use borrow.Author.Needs.{needs}
 use mathlib.Core.Path.{_≡_, sym}
-use Prim.Native.Nat.{_≤_}
 use native.Mathlib.Omega.{arith}
 use lib.ListN.{length}
 use lib.Seq.{set-out}
@@ -18,11 +17,7 @@ returns : tie.Need-returns
 returns c = search needs
 
 returns-2 : tie.Need-returns-2
-returns-2 c =
-    let a = c .before .args in
-    let long : length (a .sets) ≡ 24 = search needs in
-    let past : length (a .sets) ≤ a .at = omega arith in
-    sym (set-out (a .sets) (a .at) (a .s) past)
+returns-2 c = let a = c .before .args in let l : length (a .sets) ≡ 24 = search needs in sym (set-out (a .sets) (a .at) (a .s) (omega arith))
 
 pub with-group-spec : {M : Type 1} → statement M
 with-group-spec = tie.close (tie.spec mul-next array-write-next returns returns-2)

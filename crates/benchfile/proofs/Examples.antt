@@ -97,7 +97,10 @@ pub record Examples : Type 0 where
   pub doubled-refused : readFile 9000 doubled ≡ Refused (3 ∷ 4 ∷ [])
 
 pub examples : Examples
-unfolding isBad digit digits number decimalWithin decimal inFront split join startsWith after isWord some member including single union refuse unitsKey groupsKey groupKey parentsKey sendKey arriveKey buildWord rootWord commas numbersIn countIn countFault unitsFault groupsFault countLine risesFrom withMembers groupIn groupFault membersFrom groupLine entry entriesIn parentOf parentsIn parentsFault parentText parentsLine badSend eventFault eventIn eventLine next step finish steps readFile linesOf ended textOf
+unfolding isBad digit digits number decimalWithin decimal inFront split join startsWith after isWord some member including single union refuse
+    unitsKey groupsKey groupKey parentsKey sendKey arriveKey buildWord rootWord commas numbersIn countIn countFault unitsFault groupsFault countLine
+    risesFrom withMembers groupIn groupFault membersFrom groupLine entry entriesIn parentOf parentsIn parentsFault parentText parentsLine badSend
+    eventFault eventIn eventLine next step finish steps readFile linesOf ended textOf
 examples = record {
   read = refl;
   written = refl;

@@ -91,7 +91,7 @@ module _ (file : List ℕ) (first : Field) (e : first ≡ fieldAt unitsFault (co
         second-most = count-most groupsKey 0 24 (drop (first .used) file) second-is y
 
         pub counts-read :
-          CountsRead file (record { fault = 0; line = 3; at = first .used + second .used; units = first .value; count = second .value })
+            CountsRead file (record { fault = 0; line = 3; at = first .used + second .used; units = first .value; count = second .value })
         counts-read = record {
           refused = λ b. absurd (b refl);
           inside = second-inside;
@@ -167,8 +167,12 @@ module _ {rest : List ℕ} {units count at i : ℕ} {found : List ℕ} (so : Gro
         refused = λ b. absurd (b refl);
         inside = so .inside;
         few = so .few;
-        goes = λ _. (so .groups, so .many ∙ e, so .table ∙ sets-table 24 0 (so .groups),
-          λ k. so .same k ∙ (λ j. steps (k + e j) (split 10 (drop at rest)) (GroupDue units (d j) (so .groups))));
+        goes = λ _. (
+          so .groups,
+          so .many ∙ e,
+          so .table ∙ sets-table 24 0 (so .groups),
+          λ k. so .same k ∙ (λ j. steps (k + e j) (split 10 (drop at rest)) (GroupDue units (d j) (so .groups))),
+        );
       }
 
 -- ---- all of them
@@ -213,18 +217,18 @@ module _ {file : List ℕ} {first : Counts} (h : CountsRead file first) (z : fir
       drawing-inside = omega (arith, groups-inside, read-inside drawing-line x, length-drop (first .at + found .at) file)
 
       pub heading-read : HeadingRead file (record {
-          fault = 0;
-          line = 4 + first .count;
-          at = first .at + found .at + drawing .used;
-          content = record {
-            units = first .units;
-            count = first .count;
-            groups = found .sets;
-            build = drawing .build;
-            parents = drawing .parents;
-            events = 0;
-          };
-        })
+        fault = 0;
+        line = 4 + first .count;
+        at = first .at + found .at + drawing .used;
+        content = record {
+          units = first .units;
+          count = first .count;
+          groups = found .sets;
+          build = drawing .build;
+          parents = drawing .parents;
+          events = 0;
+        };
+      })
       unfolding contentOf
       heading-read =
           let gs = groups-part .goes y .0 in
@@ -235,7 +239,10 @@ module _ {file : List ℕ} {first : Counts} (h : CountsRead file first) (z : fir
             inside = drawing-inside;
             short = λ _. omega (arith, h .count);
             goes = λ _. (
-              first .units, gs, ps, ap (λ (n : ℕ). 4 + n) many,
+              first .units,
+              gs,
+              ps,
+              ap (λ (n : ℕ). 4 + n) many,
               λ i. record {
                 units = first .units;
                 count = many i;
@@ -245,8 +252,8 @@ module _ {file : List ℕ} {first : Counts} (h : CountsRead file first) (z : fir
                 events = 0;
               },
               drawing-due ∙ rw (← drop-drop (drawing .used) (first .at + found .at) file)
-              (read-good drawing-line (parents-due (3 + first .count) _ (first .units) gs) x
-              ∙ ap (λ (n : ℕ). steps n (split 10 (drop (drawing .used) (drop (first .at + found .at) file))) (EventDue (first .units) gs ps []))
-              (omega arith)),
+                  (read-good drawing-line (parents-due (3 + first .count) _ (first .units) gs) x
+                  ∙ ap (λ (n : ℕ). steps n (split 10 (drop (drawing .used) (drop (first .at + found .at) file))) (EventDue (first .units) gs ps []))
+                  (omega arith)),
             );
           }

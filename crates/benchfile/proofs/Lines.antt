@@ -37,7 +37,7 @@ next-fault zero k s h = absurd (h refl)
 next-fault (suc f) k s h = refl
 
 -- the first line, and then at least one piece more
-pub split-line : (rest : List ℕ) → placeOf 10 rest < length rest → (p : List ℕ) × (ps : List (List ℕ))
+split-line : (rest : List ℕ) → placeOf 10 rest < length rest → (p : List ℕ) × (ps : List (List ℕ))
     × (split 10 rest ≡ firstLine rest ∷ p ∷ ps) × (split 10 (drop (suc (placeOf 10 rest)) rest) ≡ p ∷ ps)
 unfolding firstLine
 split-line rest h = let (p, ps, e) = split-some 10 (drop (suc (placeOf 10 rest)) rest) in (p, ps, rw (← e) (split-place 10 rest h), e)
@@ -68,11 +68,11 @@ pub record LineRead (fault : List ℕ → ℕ) (rest : List ℕ) (f used : ℕ) 
 
 module _ {fault : List ℕ → ℕ} {rest : List ℕ} {f used : ℕ} (r : LineRead fault rest f used) where
   -- a good line has its LF
-  pub read-place : f ≡ 0 → placeOf 10 rest < length rest
+  read-place : f ≡ 0 → placeOf 10 rest < length rest
   read-place z =
       by-cases (decLt (placeOf 10 rest) (length rest)) (λ h. h) (λ h. omega (arith, r .is, fault-none fault rest (omega arith)))
 
-  pub read-line : f ≡ 0 → fault (firstLine rest) ≡ 0
+  read-line : f ≡ 0 → fault (firstLine rest) ≡ 0
   read-line z = sym (r .is ∙ fault-line fault rest (read-place z)) ∙ z
 
   pub read-inside : f ≡ 0 → used ≤ length rest
@@ -82,10 +82,10 @@ module _ {fault : List ℕ → ℕ} {rest : List ℕ} {f used : ℕ} (r : LineRe
     pub read-fault : (f ≡ 0 → ⊥) → BadLine (steps k (split 10 rest) s) f k
     read-fault b = by-cases (decLt (placeOf 10 rest) (length rest))
         (λ h. let e = r .is ∙ fault-line fault rest h in
-          bad (rw e (d .number (firstLine rest)))
-          (steps-line k rest s h ∙ rw (d .reads (firstLine rest), ← e, next-fault f k (then (firstLine rest)) b) (stopped (suc k) _ _)))
+        bad (rw e (d .number (firstLine rest)))
+        (steps-line k rest s h ∙ rw (d .reads (firstLine rest), ← e, next-fault f k (then (firstLine rest)) b) (stopped (suc k) _ _)))
         (λ h. let e = r .is ∙ fault-none fault rest (omega arith) in
-          bad (inr (omega arith)) (steps-none k rest s (omega (arith, place-le 10 rest)) ∙ rw e (d .missing)))
+        bad (inr (omega arith)) (steps-none k rest s (omega (arith, place-le 10 rest)) ∙ rw e (d .missing)))
       where
         bad : FaultNumber f → steps k (split 10 rest) s ≡ Refused (f ∷ k ∷ []) → BadLine (steps k (split 10 rest) s) f k
         bad (inl z) e = absurd (b z)
@@ -104,9 +104,9 @@ read-of : (fault : List ℕ → ℕ) (rest : List ℕ) {A : Type 0} (f used : A 
 read-of fault rest f used good bad {r} e zero-good used-good is-bad =
     let n = faultAt fault rest in by-cases (ℕ-discrete n 0)
     (λ z. let g : r ≡ good = e ∙ said-good n good bad z in
-      (record { is = ap f g ∙ zero-good ∙ sym z; takes = λ _. ap used g ∙ used-good }, λ _. g))
+    (record { is = ap f g ∙ zero-good ∙ sym z; takes = λ _. ap used g ∙ used-good }, λ _. g))
     (λ z. let b : f r ≡ n = ap f (e ∙ said-faulty n good bad n refl z) ∙ is-bad n in
-      (record { is = b; takes = λ h. absurd (z (sym b ∙ h)) }, λ h. absurd (z (sym b ∙ h))))
+    (record { is = b; takes = λ h. absurd (z (sym b ∙ h)) }, λ h. absurd (z (sym b ∙ h))))
 
 pub field-read : (fault value : List ℕ → ℕ) (rest : List ℕ) {r : Field} → r ≡ fieldAt fault value rest
     → LineRead fault rest (r .fault) (r .used) × (r .fault ≡ 0 → r .value ≡ value (firstLine rest))
@@ -134,6 +134,8 @@ pub event-read : (rest : List ℕ) {r : EventField} → r ≡ eventAt rest
     × (r .fault ≡ 0 → eventNumbers (eventIn (firstLine rest)) ≡ r .first ∷ r .second ∷ r .third ∷ [])
 unfolding eventAt noEvent
 event-read rest {r} e =
-    let said = read-of (eventFault 0) rest (λ (x : EventField). x .fault) (λ (x : EventField). x .used) _ noEvent e refl refl (λ n. refl) in
-    (said .0, λ z. three-numbers _ (numbers-three (eventIn (firstLine rest)))
-    ∙ sym (ap (λ (x : EventField). x .first ∷ x .second ∷ x .third ∷ []) (said .1 z)))
+    let said = read-of (eventFault 0) rest (λ (x : EventField). x .fault) (λ (x : EventField). x .used) _ noEvent e refl refl (λ n. refl) in (
+      said .0,
+      λ z. three-numbers _ (numbers-three (eventIn (firstLine rest)))
+          ∙ sym (ap (λ (x : EventField). x .first ∷ x .second ∷ x .third ∷ []) (said .1 z)),
+    )

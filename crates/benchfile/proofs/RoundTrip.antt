@@ -101,9 +101,18 @@ reached-step k ls line (GroupDue n zero gs) (e, least, most, count, group) =
     reached-next (ls ++ line ∷ []) (parentsFault n line) k (EventDue n gs (parentsIn line) []) (λ h.
     let c = parents-said n line most h in
     let z : length gs + 0 ≡ length gs = omega arith
-    in (rw (e, z, c .0), record {
-      least = least; most = most; count = omega arith; group = group; parents = c .1;
-      total = zero-le; event = all-none GoodEvent (Arrive 0) }))
+    in (
+      rw (e, z, c .0),
+      record {
+        least = least;
+        most = most;
+        count = omega arith;
+        group = group;
+        parents = c .1;
+        total = zero-le;
+        event = all-none GoodEvent (Arrive 0);
+      },
+    ))
 reached-step k ls line (GroupDue n (suc due) gs) (e, least, most, count, group) =
     let g = groupIn line in
     let l : length (gs ++ g ∷ []) + due ≡ length gs + suc due = omega (arith, length-append gs (g ∷ []))
@@ -114,10 +123,18 @@ reached-step k ls line (EventDue n gs ps es) (e, good) =
     let v = eventIn line in
     reached-next (ls ++ line ∷ []) (eventFault (length es) line) k (EventDue n gs ps (es ++ v ∷ [])) (λ h.
     let c = event-said (length es) line h
-    in (rw (map-append eventLine es (v ∷ []), c .0, ← e, append-assoc), record {
-      least = good .least; most = good .most; count = good .count; group = good .group; parents = good .parents;
-      total = omega (arith, length-append es (v ∷ []), c .2);
-      event = all-snoc GoodEvent (Arrive 0) es v (good .event) (c .1) }))
+    in (
+      rw (map-append eventLine es (v ∷ []), c .0, ← e, append-assoc),
+      record {
+        least = good .least;
+        most = good .most;
+        count = good .count;
+        group = good .group;
+        parents = good .parents;
+        total = omega (arith, length-append es (v ∷ []), c .2);
+        event = all-snoc GoodEvent (Arrive 0) es v (good .event) (c .1);
+      },
+    ))
 reached-step k ls line (Stopped refusal) r = tt
 
 finish-said : (k : ℕ) (rest : List ℕ) (ls : List (List ℕ)) (s : State) → Reached ls s

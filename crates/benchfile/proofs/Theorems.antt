@@ -92,9 +92,10 @@ read-written {file} {events} {left} {out} {text} {a} {r} {n} {line} p h q l =
     let (F, e) = read-good-file p h in
     let t : textOf F ≡ file = read-text (length events) file F e in
     let m : length (textOf F) ≤ 32768 = subst (λ (x : List ℕ). length x ≤ 32768) (sym t) (read-limits (length events) file F e .1) in
-    let lent : 9000 ≤ length left = good-well-formed p e .lent in
-    (good-wrote q (good-file p e) lent l m ∙ ap (λ (x : List ℕ). WroteBytes (length x)) t,
-    good-text q (good-file p e) lent l m ∙ ap (λ (x : List ℕ). x ++ drop (length x) out) t)
+    let lent : 9000 ≤ length left = good-well-formed p e .lent in (
+      good-wrote q (good-file p e) lent l m ∙ ap (λ (x : List ℕ). WroteBytes (length x)) t,
+      good-text q (good-file p e) lent l m ∙ ap (λ (x : List ℕ). x ++ drop (length x) out) t,
+    )
 
 -- what is written and read again is the same content and events; the rest of the list stays
 pub written-read : {c : Content} {events out text list left : List ℕ} {r : WriteReply} {a : ReadAnswer} {n : ℕ}
@@ -110,8 +111,9 @@ written-read {c} {events} {out} {text} {list} {left} {r} {a} {n} w m l q k lent 
     let gs : length (F .groups) ≡ c .count = ap (λ (d : Content). d .count) b in
     let len : n ≡ length (textOf F) = let k′ = good-wrote q refl (w .lent) l m in cc in
     let t : take n text ≡ textOf F =
-            ap₂ (λ (x : ℕ) (y : List ℕ). take x y) len (good-text q refl (w .lent) l m) ∙ take-append-seam (textOf F) (drop (length (textOf F)) out) in
-    let e : readFile (length list) (take n text) ≡ Good F = ap (readFile (length list)) t ∙ text-read (length list) F (file-good c events w) lent m in
-    (good-read p e ∙ ap₂ (λ (x y : ℕ). ReadNumbers (3 * x) (3 + y)) es gs,
-    good-content p e ∙ b,
-    good-left p e ∙ ap₂ (λ (xs : List ℕ) (x : ℕ). xs ++ drop (3 * x) list) (numbers-back c events w) es)
+    ap₂ (λ (x : ℕ) (y : List ℕ). take x y) len (good-text q refl (w .lent) l m) ∙ take-append-seam (textOf F) (drop (length (textOf F)) out) in
+    let e : readFile (length list) (take n text) ≡ Good F = ap (readFile (length list)) t ∙ text-read (length list) F (file-good c events w) lent m in (
+      good-read p e ∙ ap₂ (λ (x y : ℕ). ReadNumbers (3 * x) (3 + y)) es gs,
+      good-content p e ∙ b,
+      good-left p e ∙ ap₂ (λ (xs : List ℕ) (x : ℕ). xs ++ drop (3 * x) list) (numbers-back c events w) es,
+    )

@@ -81,8 +81,15 @@ pub events-more : (k i : ℕ) (ns : List ℕ) → i ≡ 3 * k → i + 3 ≤ leng
 unfolding eventsFrom
 events-more k i ns e h =
     let two : i + 2 ≡ suc (suc i) = omega arith in
-    rw (events-split k 1 ns, ← e, drop-cons ns i 0 (omega arith), drop-cons ns (suc i) 0 (omega arith), drop-cons ns (suc (suc i)) 0 (omega arith),
-      add-one i, two)
+    rw (
+      events-split k 1 ns,
+      ← e,
+      drop-cons ns i 0 (omega arith),
+      drop-cons ns (suc i) 0 (omega arith),
+      drop-cons ns (suc (suc i)) 0 (omega arith),
+      add-one i,
+      two,
+    )
 
 -- without, the events are all there are
 pub events-end : (k m i : ℕ) (ns : List ℕ) → i ≡ 3 * k → length ns - i < 3 → k ≤ m → eventsFrom m ns ≡ eventsFrom k ns
@@ -101,6 +108,6 @@ written-part {t} out k h w =
     let fits : n ≤ length (take k out) = simp length-take (omega arith) in (
       full .0,
       ap (λ (l : List ℕ). l ++ drop k out) (full .1)
-      ∙ append-assoc (take k t) (drop n (take k out)) (drop k out)
-      ∙ ap (λ (l : List ℕ). take k t ++ l) (sym (drop-append-le n (take k out) (drop k out) fits) ∙ ap (drop n) (take-append-drop k out)),
+          ∙ append-assoc (take k t) (drop n (take k out)) (drop k out)
+          ∙ ap (λ (l : List ℕ). take k t ++ l) (sym (drop-append-le n (take k out) (drop k out) fits) ∙ ap (drop n) (take-append-drop k out)),
     )

@@ -1,15 +1,14 @@
 -- What the functions below `read` and `write` say of the lines that they read. Definitions only.
 use Prim.Native.Nat.{ℕ, _+_, _≤_}
 use mathlib.Core.Path.{_≡_}
-use mathlib.Core.Bool.{cond}
 use mathlib.Core.List.{List, [], _∷_}
 use lib.ListN.{length, getD, drop}
-use lib.Dec.{eqb}
 use Rattle.layout.specs.Tables.{tabulate}
 use Rattle.text.specs.Text.{split}
-use Rattle.lines.specs.Lines.{Parents, Event, eventFault, eventIn}
+use Rattle.text.specs.Writing.{Written}
+use Rattle.lines.specs.Lines.{Parents, Event}
 use Rattle.benchfile.specs.File.{Outcome, UnitsDue, GroupDue, EventDue, Refused, Good, steps}
-use Rattle.benchfile.specs.Calls.{contentOf}
+use Rattle.benchfile.specs.Calls.{numbersOf, contentOf}
 use Rattle.benchfile.specs.declared.Content.{Content}
 use Rattle.benchfile.specs.declared.heading.Counts.{Counts}
 use Rattle.benchfile.specs.declared.heading.Groups.{Groups}
@@ -50,20 +49,23 @@ pub record HeadingRead (file : List ℕ) (r : Heading) : Type 0 where
 
 -- ---- the events
 
--- the events of the good lines at the start; the last piece is no line
-unfoldable pub goodEvents : List (List ℕ) → List Event
-goodEvents [] = []
-goodEvents (rest ∷ []) = []
-goodEvents (line ∷ l ∷ ls) = let more = goodEvents (l ∷ ls) in cond (eqb (eventFault 0 line) 0) (eventIn line ∷ more) []
-
--- the events at the start of the rest of a file were counted
-pub record EventsCounted (rest : List ℕ) (r : Tally) : Type 0 where
+-- the lines of events at the start of the rest of a file were read; where all are good, `Held` is true of the events
+pub record EventsRead (rest : List ℕ) (r : Tally) (Held : List Event → Type 0) : Type 0 where
   pub refused : (r .fault ≡ 0 → ⊥) → (k n : ℕ) (gs : List ℕ) (ps : Parents)
       → BadLine (steps k (split 10 rest) (EventDue n gs ps [])) (r .fault) (k + r .count)
   pub few : r .count ≤ 3000
-  pub count : r .fault ≡ 0 → r .count ≡ length (goodEvents (split 10 rest))
-  pub good : r .fault ≡ 0 → (k n : ℕ) (gs : List ℕ) (ps : Parents)
-      → steps k (split 10 rest) (EventDue n gs ps []) ≡ Good (record { units = n; groups = gs; parents = ps; events = goodEvents (split 10 rest) })
+  pub good : r .fault ≡ 0 → (es : List Event) × (length es ≡ r .count) × Held es
+      × ((k n : ℕ) (gs : List ℕ) (ps : Parents)
+      → steps k (split 10 rest) (EventDue n gs ps []) ≡ Good (record { units = n; groups = gs; parents = ps; events = es }))
+
+-- the numbers of the events were written at the start of a list
+abbrev pub NumbersPut : List ℕ → List ℕ → List Event → Type 0
+NumbersPut list left es = (place : ℕ) × Written (numbersOf es) 0 list place left
+
+-- the events were read; where all lines are good, the list holds their numbers, given that `kept` had room for them; else it stays
+pub record EventsStored (rest kept list : List ℕ) (r : Tally) (left : List ℕ) : Type 0 where
+  pub read : EventsRead rest r (λ es. 9000 ≤ length kept → NumbersPut list left es)
+  pub stays : (r .fault ≡ 0 → ⊥) → left ≡ list
 
 -- ---- contents
 

@@ -1,39 +1,14 @@
-// The lines of events: first counted, and only then, where all are good, stored.
+// The lines of events: read into a list that `read` keeps, and copied to the caller's list only once all lines are known to be good.
 use lines::event;
-ghost use mathlib.Core.Path.{_≡_};
 ghost use mathlib.Core.List.{[], _∷_};
-ghost use Rattle.text.specs.Text.{split};
+ghost use lib.ListN.{take};
 ghost use Rattle.text.specs.Writing.{Written};
-ghost use Rattle.benchfile.specs.Calls.{numbersOf};
-ghost use Rattle.benchfile.specs.Steps.{EventsCounted, goodEvents};
+ghost use Rattle.benchfile.specs.Steps.{EventsRead, NumbersPut, EventsStored};
 
 // A fault with how many good events stand before it, or how many there are.
 pub struct Tally {
     pub fault: u8,
     pub count: u16,
-}
-
-// Counts the events at the start of the rest of a file.
-pub fn counted(rest: &[u8]) -> Tally
-    ensures { λ r. ⌜ EventsCounted (now (rest .entry)) r ⌝ }
-{
-    let mut at = 0;
-    let mut count: u16 = 0;
-    while at < rest.len() {
-        let line = event(&rest[at..]);
-        if line.fault != 0 {
-            return Tally {
-                fault: line.fault,
-                count,
-            };
-        }
-        if 3000 <= count {
-            return Tally { fault: 9, count };
-        }
-        at += line.used;
-        count += 1;
-    }
-    Tally { fault: 0, count }
 }
 
 // Puts one number at a place; answers the next place. At the list's end nothing is put.
@@ -56,19 +31,55 @@ fn put_three(list: &mut [u16], at: usize, a: u16, b: u16, c: u16) -> usize
     put(list, third, c)
 }
 
-// Stores the events at the start of the rest of a file; answers how many numbers.
-pub fn store(rest: &[u8], list: &mut [u16]) -> usize
-    ensures { λ r. ⌜ Written (numbersOf (goodEvents (split 10 (now (rest .entry))))) 0 (now (list .entry)) r (now (list .exit)) ⌝ }
+// Reads the events at the start of the rest of a file: counts them, and puts their numbers into a list.
+fn read_events(rest: &[u8], kept: &mut [u16]) -> Tally
+    ensures { λ r. ⌜ EventsRead (now (rest .entry)) r (NumbersPut (now (kept .entry)) (now (kept .exit))) ⌝ }
 {
     let mut at = 0;
+    let mut count: u16 = 0;
     let mut next = 0;
     while at < rest.len() {
         let line = event(&rest[at..]);
         if line.fault != 0 {
+            return Tally {
+                fault: line.fault,
+                count,
+            };
+        }
+        if 3000 <= count {
+            return Tally { fault: 9, count };
+        }
+        next = put_three(kept, next, line.first, line.second, line.third);
+        at += line.used;
+        count += 1;
+    }
+    Tally { fault: 0, count }
+}
+
+// Puts the first so many numbers of a list at the start of another; answers the next place.
+fn copy(list: &mut [u16], from: &[u16], count: usize) -> usize
+    ensures { λ r. ⌜ Written (take count (now (from .entry))) 0 (now (list .entry)) r (now (list .exit)) ⌝ }
+{
+    let mut next = 0;
+    let mut i = 0;
+    while i < from.len() {
+        if count <= i {
             return next;
         }
-        next = put_three(list, next, line.first, line.second, line.third);
-        at += line.used;
+        next = put(list, next, from[i]);
+        i += 1;
     }
     next
+}
+
+// Reads the events at the start of the rest of a file and, where all lines are good, stores them. Meanwhile their numbers go to `kept`, a list of at least
+// 9,000 numbers.
+pub fn store(rest: &[u8], kept: &mut [u16], list: &mut [u16]) -> Tally
+    ensures { λ r. ⌜ EventsStored (now (rest .entry)) (now (kept .entry)) (now (list .entry)) r (now (list .exit)) ⌝ }
+{
+    let tally = read_events(rest, kept);
+    if tally.fault == 0 {
+        copy(list, kept, 3 * tally.count as usize);
+    }
+    tally
 }

@@ -1,9 +1,9 @@
 // The lines before the events: `units=`, `groups=`, the lines `group=`, `parents=`.
 use crate::Content;
-use lines::parents;
-use lines::groups;
-use lines::units;
 use lines::group;
+use lines::groups;
+use lines::parents;
+use lines::units;
 ghost use mathlib.Core.Path.{_≡_};
 ghost use lib.ListN.{set};
 ghost use Rattle.benchfile.specs.Calls.{noContent};

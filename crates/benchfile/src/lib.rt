@@ -86,14 +86,14 @@ pub fn read(file: &[u8], list: &mut [u16]) -> ReadAnswer
         return turned_away(fault_reply(head.fault, head.line));
     }
     let at = head.at;
-    let tally = events::counted(&file[at..]);
+    let mut kept = [0u16; 9000];
+    let tally = events::store(&file[at..], &mut kept, list);
     if tally.fault != 0 {
         return turned_away(fault_reply(tally.fault, head.line + tally.count as usize));
     }
-    let numbers = events::store(&file[at..], list);
     let content = heading::with_events(head.content, tally.count);
     ReadAnswer {
-        reply: ReadReply::Read(numbers, head.line - 1),
+        reply: ReadReply::Read(3 * tally.count as usize, head.line - 1),
         content,
     }
 }

@@ -129,11 +129,15 @@ fn case(name: &[u8], file: &[u8]) {
 
 // Files that are read, and lists that are too short or longer than needed.
 fn good() {
-    let p8 = b"units=4\ngroups=4\ngroup=0,3\ngroup=0,1\ngroup=2,3\ngroup=1,2\nparents=-,2,0,2\nsend=3,0,500\nsend=1,2,600\narrive=0\narrive=1\narrive=2\narrive=4\narrive=3\n";
+    let p8 =
+        b"units=4\ngroups=4\ngroup=0,3\ngroup=0,1\ngroup=2,3\ngroup=1,2\nparents=-,2,0,2\nsend=3,0,500\nsend=1,2,600\narrive=0\narrive=1\narrive=2\narrive=4\narrive=3\n";
     case(b"P8", p8);
     case(b"P10", b"units=1\ngroups=0\nparents=-\n");
     case(b"build", b"units=3\ngroups=1\ngroup=0,2\nparents=build\n");
-    case(b"largest numbers", b"units=32\ngroups=1\ngroup=31\nparents=build\nsend=65534,65535,65535\narrive=65535\n");
+    case(
+        b"largest numbers",
+        b"units=32\ngroups=1\ngroup=31\nparents=build\nsend=65534,65535,65535\narrive=65535\n",
+    );
     tried(b"9,100 numbers, 40,000 bytes lent", p8, 9100, 40000);
     tried(b"8,999 numbers lent", p8, 8999, 32768);
     tried(b"32,767 bytes lent", p8, 9000, 32767);
@@ -145,11 +149,20 @@ fn bad_lines() {
     case(b"no LF", b"units=1");
     case(b"groups missing", b"units=1\n");
     case(b"parents missing", b"units=1\ngroups=0\n");
-    case(b"bytes after the last LF", b"units=1\ngroups=0\nparents=-\narrive=0");
+    case(
+        b"bytes after the last LF",
+        b"units=1\ngroups=0\nparents=-\narrive=0",
+    );
     case(b"doubled last LF", b"units=1\ngroups=0\nparents=-\n\n");
     case(b"space in a key", b"units =1\n");
-    case(b"groups where group is due", b"units=1\ngroups=1\ngroups=0\n");
-    case(b"group too many", b"units=1\ngroups=0\ngroup=0\nparents=-\n");
+    case(
+        b"groups where group is due",
+        b"units=1\ngroups=1\ngroups=0\n",
+    );
+    case(
+        b"group too many",
+        b"units=1\ngroups=0\ngroup=0\nparents=-\n",
+    );
     case(b"another key", b"units=1\ngroups=0\nparents=-\narrived=0\n");
 }
 
@@ -163,9 +176,18 @@ fn bad_values() {
     case(b"comma at the end", b"units=2\ngroups=1\ngroup=0,1,\n");
     case(b"builds", b"units=1\ngroups=0\nparents=builds\n");
     case(b"build in a list", b"units=2\ngroups=0\nparents=-,build\n");
-    case(b"source 65,535", b"units=1\ngroups=0\nparents=-\nsend=65535,0,0\n");
-    case(b"send of two numbers", b"units=1\ngroups=0\nparents=-\nsend=0,0\n");
-    case(b"send of four numbers", b"units=1\ngroups=0\nparents=-\nsend=0,0,0,0\n");
+    case(
+        b"source 65,535",
+        b"units=1\ngroups=0\nparents=-\nsend=65535,0,0\n",
+    );
+    case(
+        b"send of two numbers",
+        b"units=1\ngroups=0\nparents=-\nsend=0,0\n",
+    );
+    case(
+        b"send of four numbers",
+        b"units=1\ngroups=0\nparents=-\nsend=0,0,0,0\n",
+    );
     case(b"arrive=-1", b"units=1\ngroups=0\nparents=-\narrive=-1\n");
 }
 
@@ -174,15 +196,27 @@ fn bad_numbers() {
     case(b"0 units", b"units=0\n");
     case(b"33 units", b"units=33\n");
     case(b"25 groups", b"units=1\ngroups=25\n");
-    case(b"member 2 of 2 units, not rising", b"units=2\ngroups=1\ngroup=1,0,2\n");
+    case(
+        b"member 2 of 2 units, not rising",
+        b"units=2\ngroups=1\ngroup=1,0,2\n",
+    );
     case(b"parent 255", b"units=2\ngroups=0\nparents=255,-\n");
-    case(b"parent outside, too long", b"units=2\ngroups=0\nparents=-,-,2\n");
+    case(
+        b"parent outside, too long",
+        b"units=2\ngroups=0\nparents=-,-,2\n",
+    );
     case(b"not rising", b"units=2\ngroups=1\ngroup=1,0\n");
     case(b"a member twice", b"units=2\ngroups=1\ngroup=0,0\n");
     case(b"parents too short", b"units=2\ngroups=0\nparents=-\n");
     case(b"parents too long", b"units=2\ngroups=0\nparents=-,-,-\n");
-    case(b"badly written after not rising", b"units=2\ngroups=1\ngroup=1,0,x\n");
-    case(b"first bad line, not lowest number", b"units=2\ngroups=2\ngroup=1,0\ngroup=x\n");
+    case(
+        b"badly written after not rising",
+        b"units=2\ngroups=1\ngroup=1,0,x\n",
+    );
+    case(
+        b"first bad line, not lowest number",
+        b"units=2\ngroups=2\ngroup=1,0\ngroup=x\n",
+    );
 }
 
 // So many times a line, from a place on.
@@ -217,11 +251,46 @@ fn events(name: &[u8], first: &[u8], many: usize, second: &[u8], few: usize, las
 fn large() {
     events(b"3,000 events", b"arrive=0\n", 3000, b"", 0, b"");
     events(b"3,001 events", b"arrive=0\n", 3001, b"", 0, b"");
-    events(b"3,001st event badly written", b"arrive=0\n", 3000, b"", 0, b"arrive=00\n");
-    events(b"3,001st event without LF", b"arrive=0\n", 3000, b"", 0, b"arrive=0");
-    events(b"32,768 bytes", b"arrive=10000\n", 2509, b"arrive=1000\n", 10, b"");
-    events(b"32,769 bytes", b"arrive=10000\n", 2510, b"arrive=1000\n", 9, b"");
-    events(b"32,769 bytes, the last no LF", b"arrive=10000\n", 2509, b"arrive=1000\n", 10, b"x");
+    events(
+        b"3,001st event badly written",
+        b"arrive=0\n",
+        3000,
+        b"",
+        0,
+        b"arrive=00\n",
+    );
+    events(
+        b"3,001st event without LF",
+        b"arrive=0\n",
+        3000,
+        b"",
+        0,
+        b"arrive=0",
+    );
+    events(
+        b"32,768 bytes",
+        b"arrive=10000\n",
+        2509,
+        b"arrive=1000\n",
+        10,
+        b"",
+    );
+    events(
+        b"32,769 bytes",
+        b"arrive=10000\n",
+        2510,
+        b"arrive=1000\n",
+        9,
+        b"",
+    );
+    events(
+        b"32,769 bytes, the last no LF",
+        b"arrive=10000\n",
+        2509,
+        b"arrive=1000\n",
+        10,
+        b"x",
+    );
 }
 
 fn main() {

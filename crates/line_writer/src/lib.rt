@@ -1,4 +1,5 @@
-// Lines of a bench file (document 01), written to a lent list from a place on, each with its LF. Each function answers the place after it; at the list's end writing stops.
+// Lines of a bench file (document 01), written to a lent list from a place on, each with its LF. Each function answers the place after it; at the
+// list's end writing stops.
 use text::writing::put;
 use text::writing::put_number;
 use text::writing::put_text;

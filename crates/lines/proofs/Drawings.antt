@@ -63,9 +63,11 @@ module _ (units : ℕ) where
   read-fault : (es : List ℕ) → units < 256 → entriesFault (foldl (withEntry units) noEntries es) units
       ≡ refuse (some (ltb 65536) es) 4 (refuse (some (ltb units) es) 6 (refuse (not (eqb (length es) units)) 8 0))
   unfolding entriesFault withEntry noEntries
-  read-fault es u = rw (flag-is (withEntry units) (λ s. s .bad) (ltb 65536) (λ s e. refl) es noEntries,
+  read-fault es u = rw (
+    flag-is (withEntry units) (λ s. s .bad) (ltb 65536) (λ s e. refl) es noEntries,
     flag-is (withEntry units) (λ s. s .outside) (ltb units) (λ s e. refl) es noEntries,
-    count-test (withEntry units) (λ s. s .count) 256 (λ s e. refl) es noEntries units refl u)
+    count-test (withEntry units) (λ s. s .count) 256 (λ s e. refl) es noEntries units refl u,
+  )
 
 -- ---- where no entry is outside, the parents fit a byte
 
@@ -136,8 +138,8 @@ module _ (units : ℕ) (rest : List ℕ) where
           let count = refuse-none (not (eqb (length es) units)) 7 0 (outside .1) in
           let l : length es ≡ units = eqb-true (length es) units (not-false (eqb (length es) units) (count .0)) in
           let parents : s .parents ≡ tabulate 32 (λ u. getD (map parentOf es) u 255) =
-              ap (λ (x : Entries). x .parents) was
-              ∙ read-parents units es (omega arith)
-              ∙ ap (λ (ps : List ℕ). tabulate 32 (λ u. getD ps u 255)) (bytes-are units es small (outside .0))
+          ap (λ (x : Entries). x .parents) was
+          ∙ read-parents units es (omega arith)
+          ∙ ap (λ (ps : List ℕ). tabulate 32 (λ u. getD ps u 255)) (bytes-are units es small (outside .0))
           in
           good (Drawn (map parentOf es)) (fault-there ∙ z) (simp (← value-there, other)) ∙ cc (found .place, add-one end)

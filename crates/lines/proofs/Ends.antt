@@ -129,7 +129,7 @@ module _ {S : Type 0} {add : S → ℕ → S} {first : S} {read : List ℕ → �
       reading-turn e =
           let k : at + n - at ≡ n = omega arith in
           let p : piecesFrom 44 at v ≡ take (at + n - at) (drop at v) ∷ piecesFrom 44 (at + n + 1) v =
-              pieces-turn 44 at v inside ∙ cc (turn-place, k) in
+          pieces-turn 44 at v inside ∙ cc (turn-place, k) in
           record {
             within = omega (arith, reading-within);
             same = ap (λ (x : S). foldl add x (map read (piecesFrom 44 (at + n + 1) v))) e

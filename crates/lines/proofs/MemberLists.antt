@@ -153,8 +153,11 @@ from-unique n (suc k) u s (m ∷ ms) f r b h =
     let p = rises-parts u m ms r in let q = none-parts (leb n) m ms b in let l : u ≤ m = p .0
     in by-cases (ℕ-discrete m u)
     (λ e. from-in k u s (h u (le-refl u) ∙ has-same m u ms e)
-    ∙ cc (e, from-unique n k (suc u) s ms (omega arith) (rises-lower (suc u) (suc m) ms (omega arith) (p .1)) (q .1)
-    (λ v g. h v (omega arith) ∙ has-other m v ms (λ i. lt-irrefl 0 (omega arith)))))
+    ∙ cc (
+      e,
+      from-unique n k (suc u) s ms (omega arith) (rises-lower (suc u) (suc m) ms (omega arith) (p .1)) (q .1)
+          (λ v g. h v (omega arith) ∙ has-other m v ms (λ i. lt-irrefl 0 (omega arith))),
+    ))
     (λ e. from-out k u s (h u (le-refl u) ∙ has-other m u ms e ∙ rises-without u (suc m) ms (omega arith) (p .1))
     ∙ from-unique n k (suc u) s (m ∷ ms) (omega arith) (rises-cons (suc u) m ms (omega arith) (p .1)) b (λ v g. h v (omega arith)))
 

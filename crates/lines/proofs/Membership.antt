@@ -38,8 +38,11 @@ module _ (units : ℕ) where
   fault-is : (ns : List ℕ) → membersFault (foldl (withMember units) noMembers ns)
       ≡ refuse (some isBad ns) 4 (refuse (some (leb units) ns) 6 (refuse (not (risesFrom 0 ns)) 7 0))
   unfolding membersFault withMember noMembers
-  fault-is ns = rw (flag-is (withMember units) (λ m. m .bad) isBad (λ m n. refl) ns noMembers,
-    flag-is (withMember units) (λ m. m .outside) (leb units) (λ m n. refl) ns noMembers, falls-is ns noMembers)
+  fault-is ns = rw (
+    flag-is (withMember units) (λ m. m .bad) isBad (λ m n. refl) ns noMembers,
+    flag-is (withMember units) (λ m. m .outside) (leb units) (λ m n. refl) ns noMembers,
+    falls-is ns noMembers,
+  )
 
 -- ---- the line `group=`
 
@@ -52,7 +55,6 @@ group-missing rest end units e l =
 -- the members m read from the value of the line, and their fault f
 module _ (rest : List ℕ) (end units : ℕ) (found : Found groupKey rest end) (m : Members) (f : ℕ)
     (read : m ≡ foldl (withMember units) noMembers (numbersIn (after groupKey (firstLine rest)))) (said : f ≡ membersFault m) where
-
   group-fault : groupFault units (firstLine rest) ≡ f
   unfolding groupFault refuse
   group-fault = rw (found .key-there, said, read, fault-is)

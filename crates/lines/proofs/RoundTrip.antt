@@ -37,8 +37,11 @@ count-said key least most line h =
     let a = refuse-none (not (startsWith key line)) 2 _ h in
     let b = refuse-none (isBad n) 3 _ (a .1) in
     let c = or-false-both (ltb n least) (ltb most n) (refuse-none _ 4 0 (b .1) .0)
-    in (key-written key line (decimal n) (not-false (startsWith key line) (a .0)) (decimal-number (after key line) (b .0)),
-    ltb-false n least (c .0), ltb-false most n (c .1))
+    in (
+      key-written key line (decimal n) (not-false (startsWith key line) (a .0)) (decimal-number (after key line) (b .0)),
+      ltb-false n least (c .0),
+      ltb-false most n (c .1),
+    )
 
 pub count-read : (key : List ℕ) (least most n : ℕ) → least ≤ n → n ≤ most → n < 65536
     → (countFault key least most (countLine key n) ≡ 0) × (countIn key (countLine key n) ≡ n)
@@ -89,8 +92,10 @@ send-said line s h =
     let v = after sendKey line in let t = good-send (numbersIn v) h in
     let ns = getD (numbersIn v) 0 0 ∷ getD (numbersIn v) 1 0 ∷ getD (numbersIn v) 2 0 ∷ [] in
     let none : some isBad (numbersIn v) ≡ false = rw (t .are) (no-bad-three _ _ _ (omega arith) (t .group) (t .word))
-    in simp s (key-written sendKey line (commas (map decimal ns)) s (ap (λ (l : List ℕ). commas (map decimal l)) (sym (t .are)) ∙ numbers-written v none),
-    (t .source, t .group, t .word))
+    in simp s (
+      key-written sendKey line (commas (map decimal ns)) s (ap (λ (l : List ℕ). commas (map decimal l)) (sym (t .are)) ∙ numbers-written v none),
+      (t .source, t .group, t .word),
+    )
 
 arrive-said : (line : List ℕ) → startsWith sendKey line ≡ false → startsWith arriveKey line ≡ true → isBad (number (after arriveKey line)) ≡ false
     → (eventLine (eventIn line) ≡ line) × GoodEvent (eventIn line)
@@ -137,9 +142,11 @@ group-said n line f h =
     let c = refuse-none (some (leb n) ms) 5 _ (b .1) in
     let r = not-false (risesFrom 0 ms) (refuse-none _ 6 0 (c .1) .0) in
     let w = none-from n 32 ms f (c .0) in let m = numbers-some v
-    in (key-written groupKey line _ (not-false (startsWith groupKey line) (a .0))
-    (ap (λ (l : List ℕ). commas (map decimal l)) (list-again ms r w) ∙ numbers-written v (b .0)),
-    record { some = list-some ms (m .0) (m .1) (m .2) w; below = list-below n ms f (c .0) })
+    in (
+      key-written groupKey line _ (not-false (startsWith groupKey line) (a .0))
+          (ap (λ (l : List ℕ). commas (map decimal l)) (list-again ms r w) ∙ numbers-written v (b .0)),
+      record { some = list-some ms (m .0) (m .1) (m .2) w; below = list-below n ms f (c .0) },
+    )
 
 pub group-read : (n s : ℕ) → n ≤ 32 → GoodGroup n s → (groupFault n (groupLine s) ≡ 0) × (groupIn (groupLine s) ≡ s)
 unfolding groupFault groupLine groupIn isBad refuse withMembers
@@ -178,8 +185,10 @@ parents-said n line f h =
     let b = refuse-none (some (ltb 65536) es) 3 _ (simp w at (a .1)) in
     let c = refuse-none (some (ltb n) es) 5 _ (b .1) in
     let d : length es ≡ n = eqb-true (length es) n (not-false _ (refuse-none (not (eqb (length es) n)) 7 0 (c .1) .0))
-    in simp w (key-written parentsKey line _ s (entries-written v (none-from (suc n) 33 es (suc-le-suc f) (c .0))),
-    (length-map es parentOf ∙ d, λ u l. entry-parent n es u (c .0))))
+    in simp w (
+      key-written parentsKey line _ s (entries-written v (none-from (suc n) 33 es (suc-le-suc f) (c .0))),
+      (length-map es parentOf ∙ d, λ u l. entry-parent n es u (c .0)),
+    ))
     (either (isWord buildWord v))
 
 pub parents-read : (n : ℕ) (ps : Parents) → 1 ≤ n → n ≤ 32 → GoodParents n ps
@@ -192,8 +201,10 @@ parents-read n (Drawn ps) o f (l, g) =
     let v = commas (map parentText ps) in let e = after-append parentsKey v in let w = drawn-no-build ps in
     let r = entries-read n ps f (λ z. lt-irrefl 0 (omega (arith, ap length z))) (λ u b. g u (omega arith)) in
     let c : length (entriesIn v) ≡ n = sym (length-map (entriesIn v) parentOf) ∙ ap length (r .are) ∙ l
-    in (simp (starts-append parentsKey v, e, w, none-from (suc n) 65537 (entriesIn v) (omega arith) (r .low), r .low, eq-eqb (length (entriesIn v)) n c),
-    simp (e, w, r .are))
+    in (
+      simp (starts-append parentsKey v, e, w, none-from (suc n) 65537 (entriesIn v) (omega arith) (r .low), r .low, eq-eqb (length (entriesIn v)) n c),
+      simp (e, w, r .are),
+    )
 
 pub parents-fault-number : (n : ℕ) (line : List ℕ) → FaultNumber (parentsFault n line)
 unfolding parentsFault

@@ -31,8 +31,10 @@ send-is n (a ∷ []) = refl
 send-is n (a ∷ b ∷ []) = refl
 send-is n (a ∷ b ∷ d ∷ []) = refl
 send-is n (a ∷ b ∷ d ∷ e ∷ ns) =
-    simp (count-test withNumber (λ t. t .count) 4 (λ t m. refl) (a ∷ b ∷ d ∷ e ∷ ns) noNumbers 3 refl (omega arith),
-    ne-eqb (length (a ∷ b ∷ d ∷ e ∷ ns)) 3 (λ h. lt-irrefl 0 (omega arith)))
+    simp (
+      count-test withNumber (λ t. t .count) 4 (λ t m. refl) (a ∷ b ∷ d ∷ e ∷ ns) noNumbers 3 refl (omega arith),
+      ne-eqb (length (a ∷ b ∷ d ∷ e ∷ ns)) 3 (λ h. lt-irrefl 0 (omega arith)),
+    )
 
 -- ---- what a line says
 

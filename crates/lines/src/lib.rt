@@ -4,15 +4,14 @@ mod events;
 mod fields;
 mod members;
 
-pub use entries::parents;
 pub use entries::Drawing;
-pub use events::event;
+pub use entries::parents;
 pub use events::EventField;
+pub use events::event;
+pub use fields::Field;
 pub use fields::groups;
 pub use fields::units;
-pub use fields::Field;
 pub use members::group;
-
 ghost use mathlib.Core.Path.{_≡_};
 ghost use mathlib.Core.Bool.{_||_, cond};
 

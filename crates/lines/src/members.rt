@@ -1,8 +1,8 @@
 // The line `group=`: members with commas between them.
 use crate::either;
+use crate::fields::Field;
 use crate::fields::faulty;
 use crate::fields::line_end;
-use crate::fields::Field;
 use text::reading::find;
 use text::reading::number;
 ghost use mathlib.Core.Path.{_≡_};

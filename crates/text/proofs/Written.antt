@@ -44,9 +44,9 @@ sets-append (b ∷ s) t list at = by-cases (decLt at (length list))
     (λ (h : at < length list). sets-append s t (set list at b) (suc at)
     ∙ simp length-set (ap (λ (p : ℕ). sets (sets (set list at b) (suc at) s) p t) (sym (reach-room at (length s) (length list) h))))
     (λ (h : at < length list → ⊥).
-      let end : length list ≤ at = omega arith in
-      sets-end ((b ∷ s) ++ t) list at end
-      ∙ sym (rw (reach-end at (suc (length s)) (length list) end, sets-end (b ∷ s) list at end) (sets-end t list at end)))
+    let end : length list ≤ at = omega arith in
+    sets-end ((b ∷ s) ++ t) list at end
+    ∙ sym (rw (reach-end at (suc (length s)) (length list) end, sets-end (b ∷ s) list at end) (sets-end t list at end)))
 
 pub written-none : (at : ℕ) (list : List ℕ) → Written [] at list at list
 unfolding reach
@@ -69,7 +69,7 @@ pub written-append : {s t list mid left : List ℕ} {at place next : ℕ}
     → Written s at list place mid → Written t place mid next left → Written (s ++ t) at list next left
 written-append {s} {t} {list} {at = at} v w = record {
   ends = w .ends ∙ rw (written-length v, v .ends) (sym (reach-add s t at (length list)));
-  holds = w .holds ∙ rw (v .holds, v .ends) (sym (sets-append s t list at))
+  holds = w .holds ∙ rw (v .holds, v .ends) (sym (sets-append s t list at));
 }
 
 -- ---- a text byte by byte
@@ -105,7 +105,7 @@ written-full {t} {list} w =
     let fits : length (take (length list) t) ≤ length list = simp length-take (omega arith) in (
       w .ends ∙ reach-take (length list) t 0 (length list) (omega arith) ∙ omega arith,
       w .holds ∙ sets-take (length list) t list 0 (omega arith) ∙ sets-eq (take (length list) t) list 0 (omega arith)
-      ∙ ap (λ (k : ℕ). take (length list) t ++ drop k list) (zero-add (length (take (length list) t))),
+          ∙ ap (λ (k : ℕ). take (length list) t ++ drop k list) (zero-add (length (take (length list) t))),
     )
 
 pub written-fits : {t list left : List ℕ} {place : ℕ} → Written t 0 list place left → length t ≤ length list

@@ -1,7 +1,7 @@
 -- Each way through `read` is a case of the rules: turned away, or read.
 use borrow.Author.Needs.{needs}
 use native.Mathlib.Omega.{arith}
-use Rattle.benchfile.proofs.Reading.{too-short, too-long, events-bad, line-turned, file-read}
+use Rattle.benchfile.proofs.Reading.{too-short, too-long, line-turned, events-turned, file-read}
 use Rattle.benchfile.proofs.read.Statement.{statement}
 use Rattle.benchfile.proofs.read.Tie as tie
 
@@ -32,39 +32,6 @@ returns-3 c =
     line-turned _ _ (start .before .if1 .left) (start .if2 .left) (head .read-heading .ensures .refused (c .before .before .if3 .taken))
     (c .before .fault-reply .ensures) (c .turned-away3 .ensures)
 
-sub-counted : tie.Need-sub-counted
-sub-counted c = search needs
-
-part-counted-start : tie.Need-part-counted-start
-part-counted-start c = search needs
-
-part-counted-end : tie.Need-part-counted-end
-part-counted-end c = search needs
-
-counted-requires : tie.Need-counted-requires
-counted-requires c κs = search needs
-
-cast-fault-reply : tie.Need-cast-fault-reply
-cast-fault-reply c = search needs
-
-add-fault-reply : tie.Need-add-fault-reply
-add-fault-reply c =
-    let tally = c .before .before .before .before in let start = tally .before .before in
-    omega (arith, start .before .before .read-heading .ensures .short (start .if3 .left), tally .counted .ensures .few)
-
-fault-reply-requires-2 : tie.Need-fault-reply-requires-2
-fault-reply-requires-2 c κs = search needs
-
-turned-away-requires-4 : tie.Need-turned-away-requires-4
-turned-away-requires-4 c κs = search needs
-
-returns-4 : tie.Need-returns-4
-returns-4 c =
-    let tally = c .before .before .before .before .before .before in let head = tally .before .before .before .before in let start = head .before in
-    line-turned _ _ (start .before .if1 .left) (start .if2 .left)
-    (events-bad (head .read-heading .ensures) (tally .before .before .if3 .left) (tally .counted .ensures) (c .before .before .before .before .if4 .taken))
-    (c .before .fault-reply2 .ensures) (c .turned-away4 .ensures)
-
 sub-store : tie.Need-sub-store
 sub-store c = search needs
 
@@ -74,26 +41,59 @@ part-store-start c = search needs
 part-store-end : tie.Need-part-store-end
 part-store-end c = search needs
 
+slice-aggregate-store : tie.Need-slice-aggregate-store
+slice-aggregate-store c = search needs
+
 store-requires : tie.Need-store-requires
 store-requires c κs = search needs
 
-with-events-requires : tie.Need-with-events-requires
-with-events-requires c κs = search needs
+cast-fault-reply : tie.Need-cast-fault-reply
+cast-fault-reply c = search needs
 
-sub-t8 : tie.Need-sub-t8
-sub-t8 c =
-    let read = c .before .before .before .before .before .before .before .before .before .before .before in
-    omega (arith, read .before .before .read-heading .ensures .goes (read .if3 .left) .3)
+add-fault-reply : tie.Need-add-fault-reply
+add-fault-reply c =
+    let tally = c .before .before .before .before .before .before .before in let start = tally .before .before .before .before in
+    omega (arith, start .before .before .read-heading .ensures .short (start .if3 .left), tally .store .ensures .read .few)
+
+fault-reply-requires-2 : tie.Need-fault-reply-requires-2
+fault-reply-requires-2 c κs = search needs
+
+turned-away-requires-4 : tie.Need-turned-away-requires-4
+turned-away-requires-4 c κs = search needs
 
 same-length : tie.Need-same-length
 same-length c = search needs
 
+returns-4 : tie.Need-returns-4
+returns-4 c =
+    let bad = c .before .before .before .before in let tally = bad .before .before .before .before .before in
+    let read = tally .before .before .before .before in let head = read .before .before in let start = head .before in
+    events-turned _ _ (start .before .if1 .left) (start .if2 .left) (head .read-heading .ensures) (read .if3 .left) (tally .store .ensures)
+    (bad .if4 .taken) (c .before .fault-reply2 .ensures) (c .turned-away4 .ensures)
+
+with-events-requires : tie.Need-with-events-requires
+with-events-requires c κs = search needs
+
+cast-t8 : tie.Need-cast-t8
+cast-t8 c = search needs
+
+mul-t23 : tie.Need-mul-t23
+mul-t23 c = search needs
+
+sub-t24 : tie.Need-sub-t24
+sub-t24 c =
+    let read = c .before .before .before .before .before .before .before .before .before .before .before .before in
+    omega (arith, read .before .before .read-heading .ensures .goes (read .if3 .left) .3)
+
+same-length-2 : tie.Need-same-length-2
+same-length-2 c = search needs
+
 returns-5 : tie.Need-returns-5
 returns-5 c =
-    let tally = c .before .before .before .before .before .before .before .before .before in
-    let head = tally .before .before .before .before in let start = head .before in
-    file-read _ _ (start .before .if1 .left) (start .if2 .left) (head .read-heading .ensures) (tally .before .before .if3 .left) (tally .counted .ensures)
-    (c .before .before .before .before .before .before .before .if4 .left) (c .before .before .before .before .store .ensures) (c .before .with-events .ensures)
+    let good = c .before .before .before in let tally = good .before .before .before .before .before in
+    let read = tally .before .before .before .before in let head = read .before .before in let start = head .before in
+    file-read _ _ (start .before .if1 .left) (start .if2 .left) (head .read-heading .ensures) (read .if3 .left) (tally .store .ensures)
+    (search needs) (good .if4 .left) (c .before .before .with-events .ensures)
 
 pub read-spec : {M : Type 1} → statement M
 read-spec =
@@ -107,20 +107,20 @@ read-spec =
     fault-reply-requires
     turned-away-requires-3
     returns-3
-    sub-counted
-    part-counted-start
-    part-counted-end
-    counted-requires
+    sub-store
+    part-store-start
+    part-store-end
+    slice-aggregate-store
+    store-requires
     cast-fault-reply
     add-fault-reply
     fault-reply-requires-2
     turned-away-requires-4
-    returns-4
-    sub-store
-    part-store-start
-    part-store-end
-    store-requires
-    with-events-requires
-    sub-t8
     same-length
+    returns-4
+    with-events-requires
+    cast-t8
+    mul-t23
+    sub-t24
+    same-length-2
     returns-5)

@@ -80,8 +80,11 @@ add-t21 : tie.Need-add-t21
 add-t21 c =
     let drawn = c .before .before .before .before .before .before in
     let found = drawn .before .before .before .before .before in let first = found .before .before in
-    omega (arith, drawing-inside (first .before .before .read-counts .ensures) (first .if1 .left) (found .group-lines .ensures)
-    (drawn .before .before .before .if2 .left) (drawn .parents .ensures) (c .before .before .before .before .if3 .left))
+    omega (
+      arith,
+      drawing-inside (first .before .before .read-counts .ensures) (first .if1 .left) (found .group-lines .ensures)
+          (drawn .before .before .before .if2 .left) (drawn .parents .ensures) (c .before .before .before .before .if3 .left),
+    )
 
 returns-4 : tie.Need-returns-4
 returns-4 c =

@@ -77,13 +77,12 @@ loop-again : tie.Need-loop-again Inv-loop μ-loop
 loop-again c =
     let head = c .before .before .before .before .before .before .before .before .before in
     let loop = head .loop in
-    let ns = head .before .before .before .args .list .now in
-    (
+    let ns = head .before .before .before .args .list .now in (
       search needs,
       search needs,
       search needs,
       rw (events-more (loop .k) (loop .i) ns (loop .inv .1) (omega arith))
-      (written-line eventLine (eventsFrom (loop .k) ns) _ (loop .inv .3) (c .before .before .put-event .ensures)),
+          (written-line eventLine (eventsFrom (loop .k) ns) _ (loop .inv .3) (c .before .before .put-event .ensures)),
     )
 
 same-length-2 : tie.Need-same-length-2 Inv-loop μ-loop

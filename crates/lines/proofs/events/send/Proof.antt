@@ -20,9 +20,10 @@ faulty-requires-2 c κs = search needs
 returns-2 : tie.Need-returns-2
 unfolding sendEvent isBad
 returns-2 c =
-    simp
-    (eq-eqb _ 3 (c .before .before .before .if1 .left),
-    le-leb 65535 _ (c .before .if2 .taken))
+    simp (
+      eq-eqb _ 3 (c .before .before .before .if1 .left),
+      le-leb 65535 _ (c .before .if2 .taken),
+    )
     (c .faulty2 .ensures)
 
 faulty-requires-3 : tie.Need-faulty-requires-3
@@ -31,10 +32,11 @@ faulty-requires-3 c κs = search needs
 returns-3 : tie.Need-returns-3
 unfolding sendEvent isBad
 returns-3 c =
-    simp
-    (eq-eqb _ 3 (c .before .before .before .before .before .if1 .left),
-    lt-leb 65535 _ (c .before .before .before .if2 .left),
-    le-leb 65536 _ (c .before .if3 .taken))
+    simp (
+      eq-eqb _ 3 (c .before .before .before .before .before .if1 .left),
+      lt-leb 65535 _ (c .before .before .before .if2 .left),
+      le-leb 65536 _ (c .before .if3 .taken),
+    )
     (c .faulty3 .ensures)
 
 faulty-requires-4 : tie.Need-faulty-requires-4
@@ -43,11 +45,12 @@ faulty-requires-4 c κs = search needs
 returns-4 : tie.Need-returns-4
 unfolding sendEvent isBad
 returns-4 c =
-    simp
-    (eq-eqb _ 3 (c .before .before .before .before .before .before .before .if1 .left),
-    lt-leb 65535 _ (c .before .before .before .before .before .if2 .left),
-    lt-leb 65536 _ (c .before .before .before .if3 .left),
-    le-leb 65536 _ (c .before .if4 .taken))
+    simp (
+      eq-eqb _ 3 (c .before .before .before .before .before .before .before .if1 .left),
+      lt-leb 65535 _ (c .before .before .before .before .before .if2 .left),
+      lt-leb 65536 _ (c .before .before .before .if3 .left),
+      le-leb 65536 _ (c .before .if4 .taken),
+    )
     (c .faulty4 .ensures)
 
 add-t4 : tie.Need-add-t4
@@ -65,12 +68,13 @@ cast-t7 c = search needs
 returns-5 : tie.Need-returns-5
 unfolding sendEvent isBad
 returns-5 c =
-    simp
-    (eq-eqb _ 3 (c .before .before .before .before .before .before .before .before .before .if1 .left),
-    lt-leb 65535 _ (c .before .before .before .before .before .before .before .if2 .left),
-    lt-leb 65536 _ (c .before .before .before .before .before .if3 .left),
-    lt-leb 65536 _ (c .before .before .before .if4 .left),
-    add-one)
+    simp (
+      eq-eqb _ 3 (c .before .before .before .before .before .before .before .before .before .if1 .left),
+      lt-leb 65535 _ (c .before .before .before .before .before .before .before .if2 .left),
+      lt-leb 65536 _ (c .before .before .before .before .before .if3 .left),
+      lt-leb 65536 _ (c .before .before .before .if4 .left),
+      add-one,
+    )
 
 pub send-spec : {M : Type 1} → statement M
 send-spec =

@@ -11,7 +11,7 @@ use lib.ListN.{length, getD}
 use lib.Dec.{ltb, leb, eqb, lit≤}
 use borrow.Author.Tests.{lt-ltb, ltb-false, lt-leb, le-leb, eq-eqb, eqb-true, eqb-false, ne-eqb}
 use Rattle.sets.specs.Sets.{member, difference, lowest, below}
-use Rattle.sets.proofs.Bools.{either, clash, and-left, and-right, and-both, not-of-false}
+use Rattle.sets.proofs.Bools.{either, clash, and-left, and-right, and-both, or-none, not-of-false}
 use Rattle.sets.proofs.Laws.{member-difference, below-in, lowest-of-some, not-empty, below-below, difference-none}
 use Rattle.sets.proofs.Laws.{collect-none, none-collect}
 use Rattle.forest.specs.Forest.{parent, hasPrimary, cyclicUnits, withoutPrimary, accepted}
@@ -55,10 +55,6 @@ counts-good n c h =
     let p = eqb-false n 0 (y .0) in
     (pos n p, ltb-false 32 n (y .1), ltb-false 24 c (z .1))
   where
-    or-none : (a b : Bool) → (a || b) ≡ false → (a ≡ false) × (b ≡ false)
-    or-none true b e = absurd (true≢false e)
-    or-none false b e = (refl, e)
-
     pos : (m : ℕ) → (m ≡ 0 → ⊥) → 0 < m
     pos m f = omega arith
 

@@ -1,7 +1,7 @@
 -- Laws of faults: a line that is not refused passed every test; a fault is a number from 3 to 9. Assumes nothing.
 use mathlib.Core.Path.{_≡_, refl}
 use mathlib.Core.Logic.{_⊎_, inl, inr}
-use mathlib.Core.Bool.{Bool, true, false, _||_, cond, true≢false}
+use mathlib.Core.Bool.{Bool, true, false, _||_, cond}
 use mathlib.Core.List.{List, [], _∷_}
 use Prim.Native.Nat.{ℕ, zero, suc, _≤_}
 use native.Mathlib.Nat.{suc-ne-zero, lt-of-lt-of-le}
@@ -18,10 +18,6 @@ pub refuse-none : (b : Bool) (k r : ℕ) → refuse b (suc k) r ≡ 0 → (b ≡
 unfolding refuse
 refuse-none true k r h = absurd (suc-ne-zero k h)
 refuse-none false k r h = (refl, h)
-
-pub or-false-both : (a b : Bool) → (a || b) ≡ false → (a ≡ false) × (b ≡ false)
-or-false-both true b h = absurd (true≢false h)
-or-false-both false b h = (refl, h)
 
 pub or-more : (a b c : Bool) → ((a || b) || c) ≡ (a || cond b true c)
 or-more true b c = refl

@@ -12,7 +12,7 @@ use lib.Seq.{drop-cons}
 use lib.Dec.{ltb, leb, eqb}
 use lib.Pow.{pow-mono}
 use borrow.Author.Tests.{le-ltb, lt-leb, eq-eqb, ltb-false, leb-false, eqb-true, not-false}
-use Rattle.sets.proofs.Bools.{either, not-true-false}
+use Rattle.sets.proofs.Bools.{either, or-none, not-true-false}
 use Rattle.text.specs.Text.{isBad, number, decimal, startsWith, after, isWord, some}
 use Rattle.text.proofs.Keys.{starts-append, after-append, word-is, word-same}
 use Rattle.text.proofs.Numbers.{number-decimal, decimal-number, decimal-without}
@@ -22,7 +22,7 @@ use Rattle.lines.specs.Lines.{groupKey, groupIn, groupFault, groupLine, 
 use Rattle.lines.specs.Lines.{sendKey, arriveKey, Event, Send, Arrive, badSend, eventFault, eventIn, eventLine}
 use Rattle.lines.specs.Lines.{parentsKey, buildWord, Parents, Build, Drawn, entriesIn, parentOf, parentText, parentsFault, parentsIn, parentsLine}
 use Rattle.lines.specs.Good.{GoodGroup, GoodParents, GoodEvent}
-use Rattle.lines.proofs.Faults.{none-from, refuse-none, or-false-both, FaultNumber, no-fault, refuse-number, cond-number}
+use Rattle.lines.proofs.Faults.{none-from, refuse-none, FaultNumber, no-fault, refuse-number, cond-number}
 use Rattle.lines.proofs.Values.{key-written, numbers-written, numbers-read, numbers-some, commas-without}
 use Rattle.lines.proofs.MemberLists.{list-below, list-some, list-again, set-again, from-rises, from-below}
 use Rattle.lines.proofs.ParentTexts.{text-without, entries-written, entries-read, entry-parent}
@@ -36,7 +36,7 @@ count-said key least most line h =
     let n = countIn key line in
     let a = refuse-none (not (startsWith key line)) 2 _ h in
     let b = refuse-none (isBad n) 3 _ (a .1) in
-    let c = or-false-both (ltb n least) (ltb most n) (refuse-none _ 4 0 (b .1) .0)
+    let c = or-none (ltb n least) (ltb most n) (refuse-none _ 4 0 (b .1) .0)
     in (
       key-written key line (decimal n) (not-false (startsWith key line) (a .0)) (decimal-number (after key line) (b .0)),
       ltb-false n least (c .0),
@@ -75,9 +75,9 @@ record Three (ns : List ℕ) : Type 0 where
 good-send : (ns : List ℕ) → badSend ns ≡ false → Three ns
 unfolding badSend isBad
 good-send ns h =
-    let a = or-false-both (not (eqb (length ns) 3)) _ h in
-    let b = or-false-both (leb 65535 (getD ns 0 0)) _ (a .1) in
-    let c = or-false-both (leb 65536 (getD ns 1 0)) _ (b .1)
+    let a = or-none (not (eqb (length ns) 3)) _ h in
+    let b = or-none (leb 65535 (getD ns 0 0)) _ (a .1) in
+    let c = or-none (leb 65536 (getD ns 1 0)) _ (b .1)
     in record {
       are = three-numbers ns (eqb-true (length ns) 3 (not-false _ (a .0)));
       source = leb-false 65535 (getD ns 0 0) (b .0);

@@ -1,7 +1,6 @@
--- What the functions of this crate compute: a line at the start of the rest of a file, its fault, and what it says where it has none; texts
--- written one after the other. Definitions only.
+-- What the functions of this crate compute: a line at the start of the rest of a file, its fault, and what it says where it has none. Definitions only.
 use Prim.Native.Nat.{ℕ, suc, _-_}
-use mathlib.Core.Bool.{Bool, true, false, not, _||_, cond}
+use mathlib.Core.Bool.{Bool, false, not, _||_, cond}
 use mathlib.Core.List.{List}
 use lib.ListN.{length, getD, take, set, replicate}
 use lib.Dec.{ltb, leb, eqb}

@@ -19,7 +19,7 @@ pub struct Drawing {
     pub parents: [u8; 32],
 }
 
-// What the entries so far say: one is badly written, is no unit; how many there are, counted to 256; the parents.
+// What the entries so far say: whether one is badly written; whether one is no unit; how many there are, counted to 256; the parents.
 pub struct Entries {
     pub bad: bool,
     pub outside: bool,

@@ -38,6 +38,10 @@ pub or-cases : (a b : Bool) → (a || b) ≡ true → (a ≡ true) ⊎ (b ≡ tr
 or-cases true b h = inl refl
 or-cases false b h = inr h
 
+pub or-none : (a b : Bool) → (a || b) ≡ false → (a ≡ false) × (b ≡ false)
+or-none true b h = absurd (true≢false h)
+or-none false b h = (refl, h)
+
 pub not-of-false : (b : Bool) → b ≡ false → not b ≡ true
 not-of-false true h = sym h
 not-of-false false h = refl

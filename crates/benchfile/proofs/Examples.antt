@@ -2,10 +2,10 @@
 use mathlib.Core.Path.{_≡_, refl}
 use mathlib.Core.List.{List, [], _∷_}
 use Prim.Native.Nat.{ℕ}
-use Rattle.text.specs.Text.{isBad, digit, digits, number, decimalWithin, decimal, inFront, split, join, startsWith, after, isWord, some}
+use Rattle.text.specs.Text.{isBad, digit, number, decimalWithin, decimal, inFront, split, join, startsWith, after, isWord, some}
 use Rattle.sets.specs.Sets.{member, including, single, union}
 use Rattle.lines.specs.Lines.{refuse, unitsKey, groupsKey, groupKey, parentsKey, sendKey, arriveKey, buildWord, rootWord, commas, numbersIn}
-use Rattle.lines.specs.Lines.{countIn, countFault, unitsFault, groupsFault, countLine, risesFrom, withMembers, groupIn, groupFault, membersFrom, groupLine}
+use Rattle.lines.specs.Lines.{countIn, countFault, unitsFault, groupsFault, countLine, risesFrom, groupIn, groupFault, membersFrom, groupLine}
 use Rattle.lines.specs.Lines.{Drawn, entry, entriesIn, parentOf, parentsIn, parentsFault, parentText, parentsLine}
 use Rattle.lines.specs.Lines.{Send, Arrive, badSend, eventFault, eventIn, eventLine}
 use Rattle.benchfile.specs.File.{File, Refused, Good, next, step, finish, steps, readFile, linesOf, ended, textOf}
@@ -97,9 +97,9 @@ pub record Examples : Type 0 where
   pub doubled-refused : readFile 9000 doubled ≡ Refused (3 ∷ 4 ∷ [])
 
 pub examples : Examples
-unfolding isBad digit digits number decimalWithin decimal inFront split join startsWith after isWord some member including single union refuse
+unfolding isBad digit number decimalWithin decimal inFront split join startsWith after isWord some member including single union refuse
     unitsKey groupsKey groupKey parentsKey sendKey arriveKey buildWord rootWord commas numbersIn countIn countFault unitsFault groupsFault countLine
-    risesFrom withMembers groupIn groupFault membersFrom groupLine entry entriesIn parentOf parentsIn parentsFault parentText parentsLine badSend
+    risesFrom groupIn groupFault membersFrom groupLine entry entriesIn parentOf parentsIn parentsFault parentText parentsLine badSend
     eventFault eventIn eventLine next step finish steps readFile linesOf ended textOf
 examples = record {
   read = refl;

@@ -2,7 +2,7 @@
 use mathlib.Core.Path.{_≡_, refl, sym, ap, _∙_}
 use mathlib.Core.Logic.{⊎-elim, by-cases}
 use mathlib.Core.Bool.{Bool, true, false, _||_, cond, or-false, false≢true}
-use mathlib.Core.List.{List, [], _∷_}
+use mathlib.Core.List.{List, [], _∷_, foldl}
 use Prim.Native.Nat.{ℕ, zero, suc, _+_, _^_, _≤_, _<_, zero-le}
 use native.Mathlib.Nat.{lt-irrefl, le-trans, le-refl, lt-of-lt-of-le}
 use native.Mathlib.Decide.{ℕ-discrete}
@@ -15,7 +15,7 @@ use Rattle.sets.proofs.Bools.{either}
 use Rattle.sets.proofs.Laws.{member-including, member-empty, member-below, same-members, union-below, not-empty}
 use Rattle.text.specs.Text.{some}
 use Rattle.text.proofs.Pieces.{none-cons, none-parts, Without}
-use Rattle.lines.specs.Lines.{risesFrom, withMembers, membersFrom}
+use Rattle.lines.specs.Lines.{risesFrom, membersFrom}
 use Rattle.lines.proofs.Faults.{or-more}
 
 -- v is in the list
@@ -61,34 +61,34 @@ unfolding some
 has-other m v ms n = simp (ne-eqb m v n)
 
 -- a set has its own members and those of the list
-member-with : (s v : ℕ) (ms : List ℕ) → some (leb 32) ms ≡ false → member (withMembers s ms) v ≡ (member s v || has v ms)
-unfolding withMembers some
+member-with : (s v : ℕ) (ms : List ℕ) → some (leb 32) ms ≡ false → member (foldl including s ms) v ≡ (member s v || has v ms)
+unfolding some
 member-with s v [] h = sym (or-false (member s v))
 member-with s v (m ∷ ms) h =
     let p = none-parts (leb 32) m ms h
     in member-with (including s m) v ms (p .1) ∙ ap (λ (b : Bool). b || has v ms) (member-including s m v)
     ∙ simp (lt-ltb m 32 (leb-false 32 m (p .0))) (or-more (member s v) (eqb m v) (has v ms))
 
-member-list : (v : ℕ) (ms : List ℕ) → some (leb 32) ms ≡ false → member (withMembers 0 ms) v ≡ has v ms
+member-list : (v : ℕ) (ms : List ℕ) → some (leb 32) ms ≡ false → member (foldl including 0 ms) v ≡ has v ms
 member-list v ms h = member-with 0 v ms h ∙ ap (λ (b : Bool). b || has v ms) (member-empty v)
 
 single-below : (n u : ℕ) → n ≤ 32 → u < n → single u < 2 ^ n
 unfolding single
 single-below n u f h = rw (lt-ltb u 32 (lt-of-lt-of-le h f)) (pow-lt h)
 
-with-below : (n s : ℕ) (ms : List ℕ) → n ≤ 32 → s < 2 ^ n → some (leb n) ms ≡ false → withMembers s ms < 2 ^ n
-unfolding withMembers including
+with-below : (n s : ℕ) (ms : List ℕ) → n ≤ 32 → s < 2 ^ n → some (leb n) ms ≡ false → foldl including s ms < 2 ^ n
+unfolding including
 with-below n s [] f b h = b
 with-below n s (m ∷ ms) f b h =
     let p = none-parts (leb n) m ms h
     in with-below n (including s m) ms f (union-below n s (single m) b (single-below n m f (leb-false n m (p .0)))) (p .1)
 
-pub list-below : (n : ℕ) (ms : List ℕ) → n ≤ 32 → some (leb n) ms ≡ false → withMembers 0 ms < 2 ^ n
+pub list-below : (n : ℕ) (ms : List ℕ) → n ≤ 32 → some (leb n) ms ≡ false → foldl including 0 ms < 2 ^ n
 list-below n ms f h = with-below n 0 ms f (pow-pos n) h
 
 -- a list that is not empty gives a set that is not empty
-pub list-some : (ms : List ℕ) (m : ℕ) (ns : List ℕ) → ms ≡ m ∷ ns → some (leb 32) ms ≡ false → withMembers 0 ms ≡ 0 → ⊥
-list-some ms m ns e h = not-empty (withMembers 0 ms) m (member-list m ms h ∙ ap (has m) e ∙ has-same m m ns refl)
+pub list-some : (ms : List ℕ) (m : ℕ) (ns : List ℕ) → ms ≡ m ∷ ns → some (leb 32) ms ≡ false → foldl including 0 ms ≡ 0 → ⊥
+list-some ms m ns e h = not-empty (foldl including 0 ms) m (member-list m ms h ∙ ap (has m) e ∙ has-same m m ns refl)
 
 -- ---- the list of a set
 
@@ -133,10 +133,10 @@ from-has (suc k) u s v l b = by-cases (ℕ-discrete u v)
     (either (member s u)))
 
 -- the set of a set's members
-pub set-again : (s : ℕ) → s < 2 ^ 32 → withMembers 0 (membersFrom 32 0 s) ≡ s
+pub set-again : (s : ℕ) → s < 2 ^ 32 → foldl including 0 (membersFrom 32 0 s) ≡ s
 set-again s b =
     let ms = membersFrom 32 0 s in let f = from-below 32 32 0 s b
-    in same-members 32 (withMembers 0 ms) s (list-below 32 ms (le-refl 32) f) b
+    in same-members 32 (foldl including 0 ms) s (list-below 32 ms (le-refl 32) f) b
     (λ u l. member-list u ms f ∙ from-has 32 0 s u zero-le (omega arith))
 
 -- a rising list below n is the list of the members of every set that has the same
@@ -162,5 +162,5 @@ from-unique n (suc k) u s (m ∷ ms) f r b h =
     ∙ from-unique n k (suc u) s (m ∷ ms) (omega arith) (rises-cons (suc u) m ms (omega arith) (p .1)) b (λ v g. h v (omega arith)))
 
 -- the members of the set of a rising list
-pub list-again : (ms : List ℕ) → risesFrom 0 ms ≡ true → some (leb 32) ms ≡ false → membersFrom 32 0 (withMembers 0 ms) ≡ ms
-list-again ms r b = from-unique 32 32 0 (withMembers 0 ms) ms (omega arith) r b (λ v l. member-list v ms b)
+pub list-again : (ms : List ℕ) → risesFrom 0 ms ≡ true → some (leb 32) ms ≡ false → membersFrom 32 0 (foldl including 0 ms) ≡ ms
+list-again ms r b = from-unique 32 32 0 (foldl including 0 ms) ms (omega arith) r b (λ v l. member-list v ms b)

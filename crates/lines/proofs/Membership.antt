@@ -1,4 +1,5 @@
 -- Laws of the members of a group: what the members read one after the other say is what the rules say of them all. Assumes nothing.
+use Rattle.sets.specs.Sets.{including}
 use mathlib.Core.Path.{_≡_, refl, sym, ap, _∙_}
 use mathlib.Core.Logic.{by-cases}
 use mathlib.Core.Bool.{Bool, true, false, not, _||_, cond, or-false}
@@ -10,7 +11,7 @@ use lib.ListN.{length}
 use lib.Dec.{ltb, leb}
 use borrow.Author.Tests.{lt-ltb, le-ltb, le-leb, lt-leb, eqb-false}
 use Rattle.text.specs.Text.{isBad, after, some}
-use Rattle.lines.specs.Lines.{refuse, groupKey, numbersIn, risesFrom, withMembers, groupIn, groupFault}
+use Rattle.lines.specs.Lines.{refuse, groupKey, numbersIn, risesFrom, groupIn, groupFault}
 use Rattle.lines.specs.Fields.{firstLine, endAt, noField, fieldAt, noMembers, withMember, membersFault}
 use Rattle.lines.specs.declared.members.Members.{Members}
 use Rattle.lines.proofs.Ends.{Found, end-missing, field-faulty, found-good, found-faulty}
@@ -30,8 +31,8 @@ module _ (units : ℕ) where
   falls-is [] m = sym (or-false (m .falls))
   falls-is (n ∷ ns) m = falls-is ns (withMember units m n) ∙ below-or (m .falls) n (m .least) (risesFrom (suc n) ns)
 
-  set-is : (ns : List ℕ) (m : Members) → foldl (withMember units) m ns .set ≡ withMembers (m .set) ns
-  unfolding withMember withMembers
+  set-is : (ns : List ℕ) (m : Members) → foldl (withMember units) m ns .set ≡ foldl including (m .set) ns
+  unfolding withMember
   set-is [] m = refl
   set-is (n ∷ ns) m = set-is ns (withMember units m n)
 
@@ -65,4 +66,4 @@ module _ (rest : List ℕ) (end units : ℕ) (found : Found groupKey rest end) (
   pub group-good : f ≡ 0 → fieldAt (groupFault units) groupIn rest ≡ record { fault = 0; used = end + 1; value = m .set }
   unfolding groupIn noMembers
   group-good z = found-good (groupFault units) groupIn rest groupKey end found (m .set) (group-fault ∙ z)
-      (ap (λ (x : Members). x .set) read ∙ set-is units _ noMembers)
+      (ap (λ (x : Members). x .set) read ∙ set-is units (numbersIn (after groupKey (firstLine rest))) noMembers)

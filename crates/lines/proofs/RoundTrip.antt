@@ -1,9 +1,10 @@
 -- Lines read and written: a line without fault is the one written for what it says, and what a line can say is read back from it. No line has a
 -- LF, and a fault is a number from 3 to 9. Assumes nothing.
+use Rattle.sets.specs.Sets.{including}
 use mathlib.Core.Path.{_≡_, refl, sym, ap, _∙_}
 use mathlib.Core.Logic.{⊎-elim}
 use mathlib.Core.Bool.{true, false, not, _||_, cond, true≢false}
-use mathlib.Core.List.{List, [], _∷_, _++_, map, cons≢nil}
+use mathlib.Core.List.{List, [], _∷_, _++_, map, cons≢nil, foldl}
 use Prim.Native.Nat.{ℕ, suc, _≤_, _<_, suc-le-suc}
 use native.Mathlib.Nat.{lt-irrefl, lt-of-lt-of-le}
 use native.Mathlib.Omega.{arith}
@@ -18,7 +19,7 @@ use Rattle.text.proofs.Keys.{starts-append, after-append, word-is, word-same}
 use Rattle.text.proofs.Numbers.{number-decimal, decimal-number, decimal-without}
 use Rattle.text.proofs.Pieces.{Without, without-append}
 use Rattle.lines.specs.Lines.{refuse, commas, numbersIn, unitsKey, groupsKey, countIn, countFault, countLine}
-use Rattle.lines.specs.Lines.{groupKey, groupIn, groupFault, groupLine, risesFrom, withMembers, membersFrom}
+use Rattle.lines.specs.Lines.{groupKey, groupIn, groupFault, groupLine, risesFrom, membersFrom}
 use Rattle.lines.specs.Lines.{sendKey, arriveKey, Event, Send, Arrive, badSend, eventFault, eventIn, eventLine}
 use Rattle.lines.specs.Lines.{parentsKey, buildWord, Parents, Build, Drawn, entriesIn, parentOf, parentText, parentsFault, parentsIn, parentsLine}
 use Rattle.lines.specs.Good.{GoodGroup, GoodParents, GoodEvent}
@@ -149,15 +150,15 @@ group-said n line f h =
     )
 
 pub group-read : (n s : ℕ) → n ≤ 32 → GoodGroup n s → (groupFault n (groupLine s) ≡ 0) × (groupIn (groupLine s) ≡ s)
-unfolding groupFault groupLine groupIn isBad refuse withMembers
+unfolding groupFault groupLine groupIn isBad refuse
 group-read n s f g =
     let ms = membersFrom 32 0 s in let v = commas (map decimal ms) in
-    let again : withMembers 0 ms ≡ s = set-again s (lt-of-lt-of-le (g .below) (pow-mono f)) in
+    let again : foldl including 0 ms ≡ s = set-again s (lt-of-lt-of-le (g .below) (pow-mono f)) in
     let low : some (leb n) ms ≡ false = from-below n 32 0 s (g .below) in
     let good : some isBad ms ≡ false = none-from n 65536 ms (omega arith) low in
     let e : numbersIn (after groupKey (groupKey ++ v)) ≡ ms =
-    ap numbersIn (after-append groupKey v) ∙ numbers-read ms (λ z. g .some (sym again ∙ ap (withMembers 0) z)) good
-    in (simp (starts-append groupKey v, e, good, low, from-rises 32 0 s), ap (withMembers 0) e ∙ again)
+    ap numbersIn (after-append groupKey v) ∙ numbers-read ms (λ z. g .some (sym again ∙ ap (foldl including 0) z)) good
+    in (simp (starts-append groupKey v, e, good, low, from-rises 32 0 s), ap (foldl including 0) e ∙ again)
 
 pub group-fault-number : (n : ℕ) (line : List ℕ) → FaultNumber (groupFault n line)
 unfolding groupFault

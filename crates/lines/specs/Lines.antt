@@ -2,7 +2,7 @@
 -- Of each kind of line: the lowest number of all its faults, 0 for none; what a good line says; and the line that says it.
 use Prim.Native.Nat.{ℕ, zero, suc}
 use mathlib.Core.Bool.{Bool, true, false, not, _||_, cond}
-use mathlib.Core.List.{List, [], _∷_, _++_, map}
+use mathlib.Core.List.{List, [], _∷_, _++_, map, foldl}
 use lib.ListN.{length, getD}
 use lib.Dec.{ltb, leb, eqb}
 use Rattle.sets.specs.Sets.{member, including}
@@ -83,14 +83,9 @@ unfoldable pub risesFrom : ℕ → List ℕ → Bool
 risesFrom k [] = true
 risesFrom k (m ∷ ms) = cond (leb k m) (risesFrom (suc m) ms) false
 
--- a set with the members of a list
-unfoldable pub withMembers : ℕ → List ℕ → ℕ
-withMembers s [] = s
-withMembers s (m ∷ ms) = withMembers (including s m) ms
-
--- the group as a set
+-- the group as a set, one member more after the other
 unfoldable pub groupIn : List ℕ → ℕ
-groupIn line = withMembers 0 (numbersIn (after groupKey line))
+groupIn line = foldl including 0 (numbersIn (after groupKey line))
 
 unfoldable pub groupFault : ℕ → List ℕ → ℕ
 groupFault n line =

@@ -1,4 +1,5 @@
 // The line `parents=`: the word `build`, or an entry for each unit with commas between them.
+use crate::counted;
 use crate::either;
 use crate::fields::line_end;
 use text::reading::find;
@@ -8,7 +9,7 @@ ghost use mathlib.Core.Path.{_≡_};
 ghost use mathlib.Core.List.{foldl};
 ghost use lib.ListN.{set};
 ghost use Rattle.lines.specs.Lines.{entry as entryOf, entriesIn};
-ghost use Rattle.lines.specs.Fields.{noEntries, upTo, withEntry, entriesFault, parentByte, drawingAt, noDrawing};
+ghost use Rattle.lines.specs.Fields.{noEntries, withEntry, entriesFault, parentByte, drawingAt, noDrawing};
 
 // What the line says: document 01's number for its fault or 0; how many bytes it takes with its LF; whether it is `build`; the 32 parents.
 // Beside a fault it takes 0 bytes; beside a fault, and for `build`, all parents are 255.
@@ -85,16 +86,6 @@ fn with_parent(parents: [u8; 32], at: usize, p: u8) -> [u8; 32]
     next
 }
 
-// One more, up to 256.
-fn counted(count: usize) -> usize
-    ensures { λ r. ⌜ r ≡ upTo 256 count ⌝ }
-{
-    if count < 256 {
-        return count + 1;
-    }
-    count
-}
-
 // One entry more, of so many units.
 fn with_entry(units: u8, entries: Entries, e: u32) -> Entries
     ensures { λ r. ⌜ r ≡ withEntry units entries e ⌝ }
@@ -104,7 +95,7 @@ fn with_entry(units: u8, entries: Entries, e: u32) -> Entries
     Entries {
         bad: either(entries.bad, 65536 < e),
         outside: either(entries.outside, (units as u32) < e),
-        count: counted(entries.count),
+        count: counted(256, entries.count),
         parents,
     }
 }

@@ -1,4 +1,5 @@
 // The lines `send=` and `arrive=`.
+use crate::counted;
 use crate::pick;
 use text::reading::find;
 use text::reading::number;
@@ -6,7 +7,7 @@ use text::reading::starts_with;
 ghost use mathlib.Core.Path.{_≡_};
 ghost use mathlib.Core.List.{foldl};
 ghost use Rattle.lines.specs.Lines.{numbersIn};
-ghost use Rattle.lines.specs.Fields.{noNumbers, upTo, withNumber, eventAt, sendEvent, arriveEvent, noEvent};
+ghost use Rattle.lines.specs.Fields.{noNumbers, withNumber, eventAt, sendEvent, arriveEvent, noEvent};
 
 // What the line says: document 01's number for its fault or 0; how many bytes it takes with its LF; its three numbers. Beside a fault all are 0.
 pub struct EventField {
@@ -19,7 +20,7 @@ pub struct EventField {
 
 // What the numbers of a send so far say: how many there are, counted to 4, and the first three.
 pub struct Triple {
-    pub count: u8,
+    pub count: usize,
     pub first: u32,
     pub second: u32,
     pub third: u32,
@@ -50,23 +51,13 @@ fn none() -> Triple
     }
 }
 
-// One more, up to 4.
-fn counted(count: u8) -> u8
-    ensures { λ r. ⌜ r ≡ upTo 4 count ⌝ }
-{
-    if count < 4 {
-        return count + 1;
-    }
-    count
-}
-
 // One number more.
 fn with_number(triple: Triple, n: u32) -> Triple
     ensures { λ r. ⌜ r ≡ withNumber triple n ⌝ }
 {
     let count = triple.count;
     Triple {
-        count: counted(count),
+        count: counted(4, count),
         first: pick(count == 0, n, triple.first),
         second: pick(count == 1, n, triple.second),
         third: pick(count == 2, n, triple.third),

@@ -14,6 +14,7 @@ pub use fields::units;
 pub use members::group;
 ghost use mathlib.Core.Path.{_≡_};
 ghost use mathlib.Core.Bool.{_||_, cond};
+ghost use Rattle.lines.specs.Fields.{upTo};
 
 // Whether one of two tests is true.
 fn either(a: bool, b: bool) -> bool
@@ -33,4 +34,14 @@ fn pick(test: bool, a: u32, b: u32) -> u32
         return a;
     }
     b
+}
+
+// One more, up to a limit.
+fn counted(limit: usize, n: usize) -> usize
+    ensures { λ r. ⌜ r ≡ upTo limit n ⌝ }
+{
+    if n < limit {
+        return n + 1;
+    }
+    n
 }

@@ -1,8 +1,8 @@
--- Laws of decimal numbers: a number is read from its digits, and the text of a number is the only one that is read as it. Assumes nothing.
+-- Laws of decimal numbers: a number is read from its and the text of a number is the only one that is read as it. Assumes nothing.
 use mathlib.Core.Path.{_≡_, refl, sym, ap, _∙_}
 use mathlib.Core.Logic.{_⊎_, inl, inr, ⊎-elim, by-cases}
 use mathlib.Core.Bool.{true, false, _&&_, true≢false, and-eq-true-iff}
-use mathlib.Core.List.{List, [], _∷_, _++_, append-assoc, append-nil}
+use mathlib.Core.List.{List, [], _∷_, _++_, append-assoc, append-nil, foldl, foldl-append}
 use Prim.Native.Nat.{ℕ, zero, suc, _+_, _-_, _*_, _/_, _%_, _^_, _≤_, _<_}
 use native.Mathlib.Nat.{lt-irrefl, le-refl, le-of-eq, pow-suc}
 use native.Mathlib.Decide.{ℕ-discrete, decLt}
@@ -11,7 +11,7 @@ use lib.Arith.{lt-one}
 use lib.Dec.{ltb, leb, eqb}
 use borrow.Author.Tests.{lt-ltb, le-ltb, le-leb, ne-eqb, ltb-true, leb-true, leb-false, eqb-false}
 use Rattle.sets.proofs.Bools.{either}
-use Rattle.text.specs.Text.{isBad, digit, digits, number, decimalWithin, decimal, some}
+use Rattle.text.specs.Text.{isBad, digit, number, decimalWithin, decimal, some}
 use Rattle.text.proofs.Places.{digit-more, number-digits}
 use Rattle.text.proofs.Pieces.{Without, without-cons, without-append}
 
@@ -45,19 +45,12 @@ digit-most n b = ⊎-elim (λ (d : Digit n b). omega arith) (λ e. le-of-eq e) (
 
 -- ---- reading a text
 
-digits-append : (n : ℕ) (s t : List ℕ) → digits n (s ++ t) ≡ digits (digits n s) t
-unfolding digits
-digits-append n [] t = refl
-digits-append n (b ∷ s) t = digits-append (digit n b) s t
-
-digits-most : (n : ℕ) (t : List ℕ) → n ≤ 65536 → digits n t ≤ 65536
-unfolding digits
+digits-most : (n : ℕ) (t : List ℕ) → n ≤ 65536 → foldl digit n t ≤ 65536
 digits-most n [] h = h
 digits-most n (b ∷ t) h = digits-most (digit n b) t (digit-most n b)
 
 -- what is a number was one at every digit
-digits-before : (n : ℕ) (t : List ℕ) → digits n t < 65536 → n < 65536
-unfolding digits
+digits-before : (n : ℕ) (t : List ℕ) → foldl digit n t < 65536 → n < 65536
 digits-before n [] h = h
 digits-before n (b ∷ t) h = let d = digit-good n b (digits-before (digit n b) t h) in omega arith
 
@@ -71,7 +64,7 @@ number-most (b ∷ c ∷ t) = ⊎-elim
     (either (eqb b 48))
 
 -- a text that does not start with 0
-number-first : (b : ℕ) (t : List ℕ) → eqb b 48 ≡ false → number (b ∷ t) ≡ digits 0 (b ∷ t)
+number-first : (b : ℕ) (t : List ℕ) → eqb b 48 ≡ false → number (b ∷ t) ≡ foldl digit 0 (b ∷ t)
 number-first b t h = number-digits (b ∷ t) (omega arith) (λ e. absurd (eqb-false b 48 h e))
 
 -- ---- writing
@@ -135,12 +128,12 @@ decimal-without c n h = within-without 5 n
 
 -- ---- written, then read
 
-digits-within : (k n : ℕ) → n < 10 ^ k → n < 65536 → digits 0 (decimalWithin k n) ≡ n
-unfolding digits decimalWithin
+digits-within : (k n : ℕ) → n < 10 ^ k → n < 65536 → foldl digit 0 (decimalWithin k n) ≡ n
+unfolding decimalWithin
 digits-within zero n h f = sym (lt-one h)
 digits-within (suc k) n h f = by-cases (decLt n 10)
-    (λ l. ap (digits 0) (within-one k n l) ∙ digit-more 0 (48 + n) (omega arith) (omega arith) (omega arith) ∙ omega arith)
-    (λ l. ap (digits 0) (within-more k n (omega arith)) ∙ digits-append 0 (decimalWithin k (n / 10)) ((48 + n % 10) ∷ [])
+    (λ l. ap (foldl digit 0) (within-one k n l) ∙ digit-more 0 (48 + n) (omega arith) (omega arith) (omega arith) ∙ omega arith)
+    (λ l. ap (foldl digit 0) (within-more k n (omega arith)) ∙ foldl-append digit 0 (decimalWithin k (n / 10)) ((48 + n % 10) ∷ [])
     ∙ ap (λ (x : ℕ). digit x (48 + n % 10)) (digits-within k (n / 10) (tenth-below k n h) (omega arith))
     ∙ digit-more (n / 10) (48 + n % 10) (omega arith) (omega arith) (omega arith) ∙ omega arith)
 
@@ -161,12 +154,11 @@ unfolding decimal
 number-decimal n h = by-cases (ℕ-discrete n 0)
     (λ e. ap (λ (x : ℕ). number (decimal x)) e ∙ zero-read ∙ sym e)
     (λ e. let f = within-first 5 n (omega arith) (omega arith)
-    in ap number (f .2) ∙ number-first (f .0) (f .1) (f .3) ∙ ap (digits 0) (sym (f .2)) ∙ digits-within 5 n (omega arith) h)
+    in ap number (f .2) ∙ number-first (f .0) (f .1) (f .3) ∙ ap (foldl digit 0) (sym (f .2)) ∙ digits-within 5 n (omega arith) h)
 
 -- ---- read, then written
 
-digits-written : (n : ℕ) (t : List ℕ) → 1 ≤ n → digits n t < 65536 → decimal (digits n t) ≡ decimal n ++ t
-unfolding digits
+digits-written : (n : ℕ) (t : List ℕ) → 1 ≤ n → foldl digit n t < 65536 → decimal (foldl digit n t) ≡ decimal n ++ t
 digits-written n [] l h = sym (append-nil (decimal n))
 digits-written n (b ∷ t) l h =
     let d = digit-good n b (digits-before (digit n b) t h) in let e : 48 + (b - 48) ≡ b = omega arith
@@ -182,13 +174,13 @@ digit-written b h =
     in decimal-digit (digit 0 b) (omega arith) ∙ ap (λ (x : ℕ). x ∷ []) e
 
 number-written : (t : List ℕ) → number t < 65536 → decimal (number t) ≡ t
-unfolding number digits
+unfolding number
 number-written [] h = absurd (lt-irrefl 65536 h)
 number-written (b ∷ []) h = digit-written b h
 number-written (b ∷ c ∷ t) h = ⊎-elim
     (λ (z : eqb b 48 ≡ true). absurd (lt-irrefl 65536 (simp z at h)))
     (λ (z : eqb b 48 ≡ false).
-    let g : digits (digit 0 b) (c ∷ t) < 65536 = simp z at h
+    let g : foldl digit (digit 0 b) (c ∷ t) < 65536 = simp z at h
     in let f = digits-before (digit 0 b) (c ∷ t) g
     in let d = digit-good 0 b f
     in let o : b ≡ 48 → ⊥ = eqb-false b 48 z

@@ -1,14 +1,14 @@
 -- Laws of the functions that read: a byte's place, keys, digits and numbers, each from a place of the text on. Assumes nothing.
 use mathlib.Core.Path.{_≡_, refl, sym}
 use mathlib.Core.Bool.{true, false, and-false}
-use mathlib.Core.List.{List, [], _∷_}
+use mathlib.Core.List.{List, [], _∷_, foldl}
 use Prim.Native.Nat.{ℕ, suc, _+_, _-_, _*_, _≤_, _<_}
 use native.Mathlib.Numerals.{add-one}
 use native.Mathlib.Omega.{arith}
 use borrow.Author.Tests.{lt-ltb, le-ltb, le-leb, lt-leb, eq-eqb, ne-eqb}
 use lib.ListN.{length, drop, getD, drop-of-length-le}
 use lib.Seq.{drop-cons}
-use Rattle.text.specs.Text.{digit, digits, number, startsWith}
+use Rattle.text.specs.Text.{digit, number, startsWith}
 use Rattle.text.specs.Writing.{placeOf}
 
 -- the text from a place on: the byte there, and the text from the next place on
@@ -69,12 +69,10 @@ unfolding digit
 digit-more n b l u h = rw (le-leb 48 b l, le-leb b 57 u, lt-ltb (n * 10 + (b - 48)) 65536 h)
 
 pub digits-next : (n : ℕ) (text : List ℕ) (at : ℕ) → at < length text
-    → digits n (drop at text) ≡ digits (digit n (getD text at 0)) (drop (at + 1) text)
-unfolding digits
+    → foldl digit n (drop at text) ≡ foldl digit (digit n (getD text at 0)) (drop (at + 1) text)
 digits-next n text at h = rw (drop-next text at h)
 
-pub digits-end : (n : ℕ) (text : List ℕ) (at : ℕ) → length text ≤ at → digits n (drop at text) ≡ n
-unfolding digits
+pub digits-end : (n : ℕ) (text : List ℕ) (at : ℕ) → length text ≤ at → foldl digit n (drop at text) ≡ n
 digits-end n text at h = rw (drop-of-length-le text h)
 
 -- ---- a number
@@ -90,8 +88,8 @@ number-zero [] e h = absurd (omega arith)
 number-zero (b ∷ []) e h = absurd (omega arith)
 number-zero (b ∷ c ∷ bs) e h = rw (eq-eqb b 48 e)
 
-pub number-digits : (text : List ℕ) → 0 < length text → (getD text 0 0 ≡ 48 → length text ≤ 1) → number text ≡ digits 0 text
-unfolding number digits
+pub number-digits : (text : List ℕ) → 0 < length text → (getD text 0 0 ≡ 48 → length text ≤ 1) → number text ≡ foldl digit 0 text
+unfolding number
 number-digits [] h z = absurd (omega arith)
 number-digits (b ∷ []) h z = refl
 number-digits (b ∷ c ∷ bs) h z = rw (ne-eqb b 48 (λ e. let l : suc (suc (length bs)) ≤ 1 = z e in omega arith))

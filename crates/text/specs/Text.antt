@@ -2,7 +2,7 @@
 -- bytes. Definitions only.
 use Prim.Native.Nat.{ℕ, zero, suc, _+_, _-_, _*_, _/_, _%_}
 use mathlib.Core.Bool.{Bool, true, false, _&&_, cond}
-use mathlib.Core.List.{List, [], _∷_, _++_}
+use mathlib.Core.List.{List, [], _∷_, _++_, foldl}
 use lib.ListN.{length, drop}
 use lib.Dec.{ltb, leb, eqb}
 
@@ -16,16 +16,11 @@ isBad n = leb 65536 n
 unfoldable pub digit : ℕ → ℕ → ℕ
 digit n b = cond (leb 48 b && leb b 57 && ltb (n * 10 + (b - 48)) 65536) (n * 10 + (b - 48)) 65536
 
--- a text behind the digits of n
-unfoldable pub digits : ℕ → List ℕ → ℕ
-digits n [] = n
-digits n (b ∷ bs) = digits (digit n b) bs
-
 -- a decimal number: one digit or more, no leading zero (zero is `0`), at most 65,535
 unfoldable pub number : List ℕ → ℕ
 number [] = 65536
 number (b ∷ []) = digit 0 b
-number (b ∷ c ∷ bs) = cond (eqb b 48) 65536 (digits 0 (b ∷ c ∷ bs))
+number (b ∷ c ∷ bs) = cond (eqb b 48) 65536 (foldl digit 0 (b ∷ c ∷ bs))
 
 -- the digits of n, of which k are enough
 unfoldable pub decimalWithin : ℕ → ℕ → List ℕ

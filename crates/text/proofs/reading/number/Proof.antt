@@ -1,17 +1,18 @@
 -- The loop's invariant: the digits from `at` on, behind those of `n`, are all the digits of the text.
+use mathlib.Core.List.{foldl}
 use borrow.Author.Needs.{needs}
 use mathlib.Core.Path.{_≡_, refl, sym, _∙_}
 use mathlib.Core.Logic.{⊎-elim}
 use native.Mathlib.Omega.{arith}
 use Prim.Native.Nat.{_-_, _≤_}
 use lib.ListN.{length, drop, getD}
-use Rattle.text.specs.Text.{digits}
+use Rattle.text.specs.Text.{digit}
 use Rattle.text.proofs.Places.{number-empty, number-zero, number-digits, digits-next, digits-end}
 use Rattle.text.proofs.reading.number.Statement.{statement}
 use Rattle.text.proofs.reading.number.Tie as tie
 
 abbrev Inv-loop : tie.InvT-loop
-Inv-loop text n₀ at₀ n at = (at ≤ length text) × (digits n (drop at text) ≡ digits 0 text)
+Inv-loop text n₀ at₀ n at = (at ≤ length text) × (foldl digit n (drop at text) ≡ foldl digit 0 text)
 
 abbrev μ-loop : tie.MeasureT-loop
 μ-loop text n₀ at₀ n at = length text - at

@@ -1,5 +1,4 @@
 pub mod Shared
-pub mod Examples
 pub mod Ancestry
 pub mod Primaries
 pub mod Accepted

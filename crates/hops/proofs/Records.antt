@@ -54,6 +54,10 @@ sizes h is = let f = LL.owed T.the-type T′.the-laws h _ is in (f .0 .1, f .1 .
 made : (h : Hop) → Sizes h → Low h
 made h s = LL.owes T.the-type T′.the-laws h ((refl, s .0), ((refl, s .1), ((refl, s .2), ((refl, s .3), ((refl, s .4), tt)))))
 
+pub zeros-low : Low noHop
+unfolding noHop
+zeros-low = made noHop (omega arith, omega arith, omega arith, omega arith, omega arith)
+
 pub state-low : (k : ℕ) (h : Hop) → k < 2 ^ 8 → Low h → Low (withState k h)
 unfolding withState
 state-low k h fits is = let s = sizes h is in made (withState k h) (s .0, s .1, s .2, s .3, fits)

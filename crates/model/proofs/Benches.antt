@@ -1,13 +1,13 @@
--- P7 to P9 of document 01, and what its wrong turns get wrong, hold of the rules by computation. A group is written as its number: {0,3} is 9.
-use mathlib.Core.Path.{_≡_, refl, sym}
-use mathlib.Core.Bool.{true, false}
+-- What document 01's wrong turns get wrong, and refusals in checking order, hold of the rules by computation. A group is written as its number: {0,3}
+-- is 9. P1 to P10 are one table in the crate worked_examples.
+use mathlib.Core.Path.{_≡_, refl}
+use mathlib.Core.Bool.{false}
 use Prim.Native.Nat.{ℕ}
 use mathlib.Core.List.{List, [], _∷_, _++_, map}
 use lib.ListN.{replicate}
 use lib.Count.{onesIn, trailingZeros}
 use Rattle.sets.specs.Sets.{member, single, union, intersection, including, includingIf, size, lowest, collect}
 use Rattle.forest.specs.Forest.{onRoute, parent, ancestorsWithin, ancestors, above, aboveEvery, aboveSome, primary, route, routeSize}
-use Rattle.forest.proofs.Examples.{C, drawing, examples}
 use Rattle.model.specs.declared.Hop.{Hop}
 use Rattle.model.specs.declared.Message.{Message}
 use Rattle.model.specs.Network.{messagesOf, sumOf, bit, Plan, groupOf, primaryOf, routeOf, routeSizeOf, Network, network, fresh}
@@ -18,7 +18,6 @@ use Rattle.model.specs.Rules.{childrenOn, forward, logged, takeHop, lowe
 use Rattle.model.specs.Rules.{hold, arrive, allTaken, quiescent}
 use Rattle.model.specs.Calls.{Call, Send, Arrive, call, Answered, answered, recorded, step, runFrom, run, networkOf, historyOf}
 use Rattle.model.specs.Calls.{LogRefused, Log, log, RestRefused, Rest, rest}
-use Rattle.model.specs.Demand3.{Planned, built, checked}
 
 -- one unit, group {0}
 abbrev pub single-unit : Plan
@@ -26,7 +25,7 @@ single-unit = record { units = 1; count = 1; groups = 1 ∷ []; parents = replic
 
 -- bench C, drawn as P4
 abbrev pub bench-C : Plan
-bench-C = record { units = 4; count = 4; groups = C; parents = drawing ++ replicate 28 255 }
+bench-C = record { units = 4; count = 4; groups = 9 ∷ 3 ∷ 12 ∷ 6 ∷ []; parents = (255 ∷ 2 ∷ 0 ∷ 2 ∷ []) ++ replicate 28 255 }
 
 -- P1's groups {0,1,3} and {1,2,3} and its built forest: unit 1 has three children, two of them on the first group's route
 abbrev pub three-children : Plan
@@ -39,13 +38,6 @@ star = record { units = 32; count = 2; groups = 4294967295 ∷ 131071 ∷ []; pa
 -- so many messages to a group
 abbrev pub after-sends : ℕ → ℕ → Network
 after-sends n g = network (replicate n (record { source = 0; group = g; word = 0 })) [] []
-
--- the premise of the theorems is met: by a check, and by a build
-pub C-planned : Planned bench-C
-C-planned = checked drawing (examples .p4 .unrefused) (sym (examples .p4 .right))
-
-pub P1-planned : Planned three-children
-P1-planned = built (examples .p1 .unrefused) (sym (examples .p1 .right))
 
 -- calls lent whole lists, and their answers
 abbrev pub sends : ℕ → ℕ → ℕ → Call
@@ -66,31 +58,16 @@ hop s r q m k = record { sender = s; receiver = r; sequence = q; message = m; st
 unfoldable pub message : (source group word : ℕ) → Message
 message s g w = record { source = s; group = g; word = w }
 
-abbrev pub seven : List Call
-seven = sends 0 0 7 ∷ arrives 0 ∷ arrives 0 ∷ []
-
-abbrev pub eight : List Call
-eight = sends 3 0 500 ∷ sends 1 2 600 ∷ arrives 0 ∷ arrives 1 ∷ arrives 2 ∷ arrives 4 ∷ arrives 3 ∷ []
-
 abbrev pub two : List Call
 two = sends 0 0 7 ∷ sends 0 0 8 ∷ arrives 1 ∷ arrives 0 ∷ []
 
 pub record Benches : Type 0 where
-  -- hop 0 goes from 0 to 0; arrive 0 takes 1; arrive 0 again is a repeat
-  pub p7-answers : answers single-unit seven ≡ Sent 1 ∷ Taken 1 ∷ Repeat ∷ []
-  pub p7-hops : hopsOf (networkOf (run single-unit seven)) ≡ hop 0 0 1 1 2 ∷ []
-  -- hop 4 is held; hop 3 takes two
-  pub p8-answers : answers bench-C eight ≡ Sent 1 ∷ Sent 2 ∷ Taken 1 ∷ Taken 1 ∷ Taken 1 ∷ Held ∷ Taken 2 ∷ []
-  -- the messages are recorded with their words
-  pub p8-messages : messagesOf (networkOf (run bench-C eight)) ≡ message 3 0 500 ∷ message 1 2 600 ∷ []
-  pub p8-hops : hopsOf (networkOf (run bench-C eight)) ≡ hop 3 0 1 1 2 ∷ hop 1 2 1 2 2 ∷ hop 0 2 1 1 2 ∷ hop 2 3 1 2 2 ∷ hop 2 3 2 1 2 ∷ []
-  pub p8-log-0 : log bench-C 0 6400 (networkOf (run bench-C eight)) ≡ Log (1 ∷ [])
-  pub p8-log-1 : log bench-C 1 6400 (networkOf (run bench-C eight)) ≡ Log []
+  -- a message is recorded with its word
+  pub word : messagesOf (networkOf (run bench-C (sends 3 0 500 ∷ []))) ≡ message 3 0 500 ∷ []
   -- unit 2 carries message 1 and does not log it
-  pub p8-log-2 : log bench-C 2 6400 (networkOf (run bench-C eight)) ≡ Log (2 ∷ [])
-  pub p8-log-3 : log bench-C 3 6400 (networkOf (run bench-C eight)) ≡ Log (2 ∷ 1 ∷ [])
-  pub p8-rest : rest 2000 (networkOf (run bench-C eight)) ≡ Rest true
-  pub p9 : answers bench-C (sends 4 9 0 ∷ []) ≡ Refused 12 ∷ []
+  pub carrier-log : log bench-C 2 6400 (networkOf (run bench-C (sends 3 0 500 ∷ arrives 0 ∷ arrives 1 ∷ []))) ≡ Log []
+  -- a hop that was taken is a repeat
+  pub repeats : answers single-unit (sends 0 0 7 ∷ arrives 0 ∷ arrives 0 ∷ []) ≡ Sent 1 ∷ Taken 1 ∷ Repeat ∷ []
   -- sequence numbers count by pair: one source, two receivers
   pub by-pair : map (λ h. h .sequence) (hopsOf (networkOf (run bench-C (sends 3 0 1 ∷ sends 3 2 2 ∷ sends 3 0 3 ∷ [])))) ≡ 1 ∷ 1 ∷ 2 ∷ []
   -- one source, one group: the second message waits for the first, and the log has the sent order
@@ -120,17 +97,9 @@ unfolding onesIn trailingZeros member single union intersection including includ
     isHeldAt nextHeld tally settle hold arrive allTaken quiescent call recorded step runFrom run networkOf historyOf
     log rest answered-with answers hop message messagesOf
 benches = record {
-  p7-answers = refl;
-  p7-hops = refl;
-  p8-answers = refl;
-  p8-messages = refl;
-  p8-hops = refl;
-  p8-log-0 = refl;
-  p8-log-1 = refl;
-  p8-log-2 = refl;
-  p8-log-3 = refl;
-  p8-rest = refl;
-  p9 = refl;
+  word = refl;
+  carrier-log = refl;
+  repeats = refl;
   by-pair = refl;
   order-answers = refl;
   order-log = refl;

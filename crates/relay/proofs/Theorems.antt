@@ -1,7 +1,6 @@
--- Demand 3 over lists of calls chained by the promises in their contracts; that there are such lists; P8's. docs/PROOFS.md leads here.
+-- Demand 3 over lists of calls chained by the promises in their contracts; that there are such lists. docs/PROOFS.md leads here.
 -- Assumes nothing.
 use mathlib.Core.Path.{_≡_, refl, sym, ap, subst, _∙_}
-use mathlib.Core.Bool.{true}
 use mathlib.Core.List.{List, [], _∷_, _++_, append-nil, map, map-append}
 use Prim.Native.Nat.{ℕ, _+_, _≤_}
 use native.Mathlib.Omega.{arith}
@@ -14,28 +13,26 @@ use Rattle.forest.specs.declared.Answer.{Answer as ForestAnswer}
 use Rattle.forest.specs.Calls.{refusal, buildRefusal, buildParents, checkRefusal, checkParents}
 use Rattle.model.specs.declared.Hop.{Hop}
 use Rattle.model.specs.Network.{Plan, Network, noHop, hopsOf, logOf, sumOf}
-use Rattle.model.specs.Rules.{Answer, Sent, Held, Taken, allTaken, quiescent}
+use Rattle.model.specs.Rules.{Answer, allTaken, quiescent}
 use Rattle.model.specs.Calls.{Call, Send, Arrive, Answered, answered, run, networkOf, historyOf, LogAnswer, log, Rest, rest}
 use Rattle.model.specs.Demand3.{Planned, built, checked, Demand3}
 use Rattle.model.specs.Claims.{Limits, callOf, Reading}
 use Rattle.model.proofs.Runs.{run-calls}
 use Rattle.model.proofs.Replies.{refuse-either, rest-answers}
 use Rattle.model.proofs.Theorems.{demand-3, reading, limits}
-use Rattle.model.proofs.Benches.{bench-C, C-planned, eight, answered-with, answers, benches}
 use Rattle.relay.specs.declared.Bench.{Bench}
 use Rattle.relay.specs.declared.replies.RestReply.{RestReply}
 use Rattle.relay.specs.Replies.{restAnswer}
 use Rattle.relay.specs.State.{padded, hopRecords, benchOf}
-use Rattle.relay.specs.Machine.{logPart}
 use Rattle.relay.specs.Promises.{after, handedBack, OfHops, RestPromise, LogPromise}
 use Rattle.relay.specs.Chains.{Called, begun, sends, arrives, CallsDemand3, RestSays}
-use Rattle.relay.proofs.Promised.{fresh-promise, send-promise, arrive-promise, log-promise}
+use Rattle.relay.proofs.Promised.{fresh-promise, send-promise, arrive-promise}
 use Rattle.relay.proofs.Reached.{Reached, called-reached, reached-send, reached-arrive, fresh-state}
 
 -- ---- what the calls that only look say of the state reached
 
 -- a unit's log is what log hands back; what is no unit has none
-handed-log : (P : Plan) (u book : ℕ) (W : Network) → Limits P W → 6400 ≤ book → handedBack (log P u book W) ≡ logOf u W
+pub handed-log : (P : Plan) (u book : ℕ) (W : Network) → Limits P W → 6400 ≤ book → handedBack (log P u book W) ≡ logOf u W
 unfolding log handedBack
 handed-log P u book W within whole =
     let Q : LogAnswer → Type 0 = λ a. handedBack a ≡ logOf u W in
@@ -98,10 +95,10 @@ module _ (P : Plan) (planned : Planned P) where
 -- calls that are those of a list leave what the list leaves
 module _ (P : Plan) (planned : Planned P) {past : List Answered} {b : Bench} {hops : List Hop} {book : List ℕ}
     (C : Called P past b hops book) (cs : List Call) (e : map callOf past ≡ cs) where
-  reached : Reached P past b hops book
+  pub reached : Reached P past b hops book
   reached = called-reached P planned C
 
-  same-calls : reached .calls ≡ cs
+  pub same-calls : reached .calls ≡ cs
   same-calls = sym (run-calls P (reached .calls)) ∙ ap (map callOf) (sym (reached .history)) ∙ e
 
   pub list-history : past ≡ historyOf (run P cs)
@@ -119,29 +116,6 @@ module _ (P : Plan) (planned : Planned P) {past : List Answered} {b : Bench} {ho
       promise .rule P planned _ (reached .bench) (reached .of-hops)
       ∙ ap (λ (x : List Call). Rest (quiescent (networkOf (run P x)))) same-calls
       ∙ sym (rest-answers 2000 (networkOf (run P cs)) (omega arith))
-
--- ---- P8
-
--- what P8 says of its calls
-pub record P8 (past : List Answered) (b : Bench) (hops : List Hop) (book : List ℕ) : Type 0 where
-  pub p8-answers : map answered-with past ≡ Sent 1 ∷ Sent 2 ∷ Taken 1 ∷ Taken 1 ∷ Taken 1 ∷ Held ∷ Taken 2 ∷ []
-  pub p8-log-0 : (part : List ℕ) → LogPromise b 0 book part → part ≡ 1 ∷ []
-  pub p8-log-1 : (part : List ℕ) → LogPromise b 1 book part → part ≡ []
-  pub p8-log-2 : (part : List ℕ) → LogPromise b 2 book part → part ≡ 2 ∷ []
-  pub p8-log-3 : (part : List ℕ) → LogPromise b 3 book part → part ≡ 2 ∷ 1 ∷ []
-  pub p8-rest : (r : RestReply) → RestPromise b hops r → restAnswer r ≡ Rest true
-
-pub p8-holds : {past : List Answered} {b : Bench} {hops : List Hop} {book : List ℕ} → Called bench-C past b hops book
-    → map callOf past ≡ eight → P8 past b hops book
-unfolding handedBack answers
-p8-holds C e = record {
-  p8-answers = ap (map answered-with) (list-history bench-C C-planned C eight e) ∙ benches .p8-answers;
-  p8-log-0 = λ part promise. list-log bench-C C-planned C eight e 0 part promise ∙ ap handedBack (benches .p8-log-0);
-  p8-log-1 = λ part promise. list-log bench-C C-planned C eight e 1 part promise ∙ ap handedBack (benches .p8-log-1);
-  p8-log-2 = λ part promise. list-log bench-C C-planned C eight e 2 part promise ∙ ap handedBack (benches .p8-log-2);
-  p8-log-3 = λ part promise. list-log bench-C C-planned C eight e 3 part promise ∙ ap handedBack (benches .p8-log-3);
-  p8-rest = λ r promise. list-rest bench-C C-planned C eight e r promise ∙ benches .p8-rest;
-}
 
 -- ---- there are such calls
 
@@ -204,28 +178,6 @@ module _ (P : Plan) (planned : Planned P) where
       let x = fresh-promise (P .units) (P .count) (P .groups) (P .parents) hops book in
       let N = fresh-state P planned hops _ book _ _ whole whole′ x in
       calls-from cs [] _ _ _ (begun x (x .whole whole whole′ .0)) (omega (arith, size, N .hops-length)) (omega (arith, size′, N .book-length))
-
--- and for P8's, with its logs
-pub p8-exists : (past : List Answered) × (b : Bench) × (hops : List Hop) × (book : List ℕ)
-    × Called bench-C past b hops book × (map callOf past ≡ eight) × P8 past b hops book
-    × (logPart b 0 book ≡ 1 ∷ []) × (logPart b 1 book ≡ []) × (logPart b 2 book ≡ 2 ∷ []) × (logPart b 3 book ≡ 2 ∷ 1 ∷ [])
-p8-exists =
-    let x = calls-exist bench-C C-planned eight in
-    let P = p8-holds (x .4) (x .5) in
-    let b = x .1 in
-    let book = x .3 in (
-      x .0,
-      b,
-      x .2,
-      book,
-      x .4,
-      x .5,
-      P,
-      P .p8-log-0 _ (log-promise b 0 book),
-      P .p8-log-1 _ (log-promise b 1 book),
-      P .p8-log-2 _ (log-promise b 2 book),
-      P .p8-log-3 _ (log-promise b 3 book),
-    )
 
 -- ---- the forest calls
 

@@ -1,8 +1,9 @@
--- A call in a walk, of a function whose parameters are plain data, `&mut [T]` and `&[T]`, and whose contract says its result and its last lists exactly.
--- One step serves every such callee (`calls`, `calls-last`): each slice is lent for a lifetime made for the call, and is had back at the list that the callee left.
--- The context has one entry for each slice passed, at its head and in the parameters' order, before the call and after it.
---     Pass n           how a parameter is passed: `value`, `lent` (a `&mut [T]` lent again), `shown` (a `&mut [T]` lent as a `&[T]`), `relayed` (a `&[T]` lent on)
---     Callee           what a caller knows of a function: its parameters, its result, its clauses, and what they come to
+-- A call in a walk, of a function whose parameters are plain data, `&mut [T]` and `&[T]`, and whose contract says its result and its last lists, exactly or by a relation.
+-- One step serves every such callee (`calls`, `calls-related`, and `calls-last`, `calls-related-last`): each slice is lent for a lifetime made for the call, and is had back at the
+-- list that the callee left. The context has one entry for each slice passed, at its head and in the parameters' order, before the call and after it.
+--     Pass n               how a parameter is passed: `value`, `lent` (a `&mut [T]` lent again), `shown` (a `&mut [T]` lent as a `&[T]`), `relayed` (a `&[T]` lent on)
+--     RelationalCallee     what a caller knows of a function: its parameters, its result, its clauses, and how they relate what is handed, the result and the lists left
+--     Callee, related      one whose clauses say the result and the lists left exactly, and that as a relation
 -- It says nothing of any crate. Assumes `Given`, and that the table of calls is monotone under a frame.
 use mathlib.Core.Path.{_≡_, refl, sym, ap, subst}
 use Prim.Native.Nat.{ℕ, zero, suc}
@@ -345,6 +346,24 @@ endedOf n ps S = record { signature = signatureOf n ps S; kept = all yes (slots 
 pub says-also : {M : Type 1} (𝓤 : URA M) {φ ψ : Type 0} → (φ → ψ) → ent 𝓤 (fact 𝓤 φ) (fact 𝓤 ψ)
 says-also 𝓤 {φ} {ψ} f = fact-use 𝓤 φ (id⊢ 𝓤 (fact 𝓤 φ)) (λ x. factI 𝓤 ψ (fact 𝓤 φ) (f x))
 
+-- a function whose contract relates what it is handed, its result and the lists that it leaves
+pub record RelationalCallee {M : Type 1} (𝓤 : URA M) (H : Heap 𝓤) (A : Atoms 𝓤) : Type 2 where
+  pub lifetimes : ℕ
+  pub passes : List (Pass lifetimes)
+  pub result : RattleType
+  pub by-value : ByValue result
+  pub clauses : Clauses 𝓤 (endedOf lifetimes passes result)
+  pub ghost-at : (κs : Lfts lifetimes) (h : Handed passes) (δs : Names passes) → clauses κs (args κs passes h δs) .ghost
+  -- what it asks of what it is handed, and what it says of its result and of the lists that it leaves
+  pub asks : Handed passes → Type 0
+  pub Says : Handed passes → result .Denot → Ends passes → Type 0
+  -- that its clauses say so
+  pub enters : (κs : Lfts lifetimes) (h : Handed passes) (δs : Names passes) → asks h → ent 𝓤 (emp 𝓤) (clauses κs (args κs passes h δs) .requires (ghost-at κs h δs))
+  pub tells : (κs : Lfts lifetimes) (h : Handed passes) (δs : Names passes) (r : result .Denot) (ws : Lasts (endedOf lifetimes passes result) κs (args κs passes h δs)) → asks h
+      → ent 𝓤 (clauses κs (args κs passes h δs) .ensures (ghost-at κs h δs) r (atExit (endedOf lifetimes passes result) κs (args κs passes h δs) ws))
+      (fact 𝓤 (Says h r (ends κs passes (args κs passes h δs) ws)))
+
+-- one whose contract says its result and the lists that it leaves exactly
 pub record Callee {M : Type 1} (𝓤 : URA M) (H : Heap 𝓤) (A : Atoms 𝓤) : Type 2 where
   pub lifetimes : ℕ
   pub passes : List (Pass lifetimes)
@@ -363,8 +382,100 @@ pub record Callee {M : Type 1} (𝓤 : URA M) (H : Heap 𝓤) (A : Atoms 𝓤) :
       (fact 𝓤 ((r ≡ answer h) × (ends κs passes (args κs passes h δs) ws ≡ leaves h)))
 
 module _ {M : Type 1} {𝓤 : URA M} {H : Heap 𝓤} {A : Atoms 𝓤} where
+  abbrev pub related : Callee 𝓤 H A → RelationalCallee 𝓤 H A
+  related c = record {
+    lifetimes = c .lifetimes;
+    passes = c .passes;
+    result = c .result;
+    by-value = c .by-value;
+    clauses = c .clauses;
+    ghost-at = c .ghost-at;
+    asks = c .asks;
+    Says = λ h r es. (r ≡ c .answer h) × (es ≡ c .leaves h);
+    enters = c .enters;
+    tells = c .exact;
+  }
+
+  abbrev pub contract-related : RelationalCallee 𝓤 H A → Contract 𝓤
+  contract-related c =
+      tripleOf 𝓤 H A (signatureOf (c .lifetimes) (c .passes) (c .result)) (closing 𝓤 H A (endedOf (c .lifetimes) (c .passes) (c .result)) (c .clauses))
+
   abbrev pub contractOf : Callee 𝓤 H A → Contract 𝓤
-  contractOf c = tripleOf 𝓤 H A (signatureOf (c .lifetimes) (c .passes) (c .result)) (closing 𝓤 H A (endedOf (c .lifetimes) (c .passes) (c .result)) (c .clauses))
+  contractOf c = contract-related (related c)
+
+  module _ (c : RelationalCallee 𝓤 H A) (h : Handed (c .passes)) where
+    -- at the lifetimes νs and the names δs: what the callee's triple binds outside, and what the caller keeps
+    module _ (νs : News (c .lifetimes)) (δs : Names (c .passes)) where
+      abbrev at-lfts : Lfts (c .lifetimes)
+      at-lfts = spans (c .lifetimes) νs
+
+      abbrev live : SProp 𝓤
+      live = toks 𝓤 A (c .lifetimes) at-lfts (fulls (c .lifetimes))
+
+      abbrev bound : contract-related c .Ghost
+      bound = ((at-lfts, fulls (c .lifetimes), tt, args at-lfts (c .passes) h δs, machines at-lfts (c .passes) h), c .ghost-at at-lfts h δs)
+
+      abbrev stay : Fml
+      stay = kept-back at-lfts (c .passes) h δs
+
+      abbrev Pre : Item 𝓤
+      Pre = raw (contract-related c .pre bound) ⊛ ‵ stay
+
+      abbrev Post-of : Val → SProp 𝓤
+      Post-of w = sep 𝓤 (contract-related c .post bound w) (sem 𝓤 H A stay)
+
+    -- what a call goes on with: its result r, the lists es that it leaves and what it says of them give X of the entries after the call and the result's machine value
+    abbrev pub Then : (List (Item 𝓤) → Val → Type 1) → Type 1
+    Then X = (r : c .result .Denot) (es : Ends (c .passes)) → c .Says h r es → Is (c .result) r (c .by-value .word r ∷ [])
+        → X (held (c .passes) (after (c .passes) h es)) (c .by-value .word r)
+
+    module _ (W : Given 𝓤 H A) {K : Type 0} (Γ : List (Item 𝓤)) (ask : c .asks h) where
+      -- once it has returned w: the slices are back, and w is the machine value of a result of which the contract holds
+      returned : K → (νs : News (c .lifetimes)) (δs : Names (c .passes)) (w : Val) (G : Val → Goal 𝓤 H) → Soaks (G w) → Then (λ Δ v. Seq K W (Δ ++ Γ) (G v))
+          → Seq K W (raw (Post-of νs δs w) ∷ Γ) (G w)
+      returned t νs δs w G z k =
+          let κs = at-lfts νs δs in let T = endedOf (c .lifetimes) (c .passes) (c .result) in let a = args κs (c .passes) h δs in let g = c .ghost-at κs h δs in
+          let S = c .result in
+          use1 W (later (some (λ (r : S .Denot). (raw (live νs δs) ⊛ ‵ (S .own r (w ∷ []))) ⊛ raw (ensured 𝓤 H A T (c .clauses) κs a g r))) ⊛ ‵ (stay νs δs)) (id⊢ 𝓤 _) $ split t $
+          await t z $
+          pick t (λ r.
+          split t $ move t (1 ∷ []) $ use1 W (some (λ (ws : Lasts T κs a). ‵ (Said κs (c .passes) h δs ws) ⊛ raw (c .clauses κs a .ensures g r (atExit T κs a ws)))) (id⊢ 𝓤 _) $
+          pick t (λ ws.
+          let es : Ends (c .passes) = ends κs (c .passes) a ws in let left : List (Item 𝓤) = held (c .passes) (after (c .passes) h es) in
+          split t $ move t (1 ∷ []) $ use1 W (raw (fact 𝓤 (c .Says h r es))) (c .tells κs h δs r ws ask) $ heard t (c .Says h r es) (λ said.
+          -- [what says the last lists; the tokens and the result; what is kept]
+          move t (1 ∷ []) $ split t $ move t (1 ∷ []) $ facts t S (Is S) (shows 𝓤 H A S) r (w ∷ []) (λ is.
+          use1 W (later (raw (deads 𝓤 H A (c .lifetimes) κs))) (over 𝓤 H A W (c .lifetimes) νs) $ await t z $ move t (0 ∷ 2 ∷ 1 ∷ []) $
+          use3 W (later (raw (⋆ 𝓤 H A left))) (back-all κs 𝓤 H A W (c .passes) h δs ws) $ await t z $ cut (raw (⋆ 𝓤 H A left) ∷ []) left Γ (id⊢ 𝓤 _) $
+          (let same : w ∷ [] ≡ c .by-value .word r ∷ [] = c .by-value .told r (w ∷ []) is in
+          subst (λ (v : Val). Seq K W (left ++ Γ) (G v)) (sym (ap only same)) (k r es said (subst (Is S r) same is)))))))
+
+  module _ {K : Type 0} {W : Given 𝓤 H A} {Γ : List (Item 𝓤)} where
+    -- up to the call: the lifetimes are made and the slices lent, and what the callee asks stands at the head beside what the caller keeps
+    ready : K → (c : RelationalCallee 𝓤 H A) (h : Handed (c .passes)) → Fit (c .passes) h → c .asks h → (G : Goal 𝓤 H) → Soaks G
+        → Γ ≡ held (c .passes) h ++ beyond (slices (c .passes)) Γ
+        → ((νs : News (c .lifetimes)) (δs : Names (c .passes)) → Seq K W (Pre c h νs δs ∷ beyond (slices (c .passes)) Γ) G) → Seq K W Γ G
+    ready t c h fit ask G z e k =
+        let n = c .lifetimes in let ps = c .passes in let Γ′ = beyond (slices ps) Γ in
+        subst (λ (Δ : List (Item 𝓤)). Seq K W Δ G) (sym e)
+        (use0 W (later (some (λ (νs : News n). raw (toks 𝓤 A n (spans n νs) (fulls n))))) (begun 𝓤 H A W n) $ await t z $ pick t (λ νs.
+        let κs = spans n νs in let live-toks = toks 𝓤 A n κs (fulls n) in
+        cut (raw live-toks ∷ held ps h) (raw live-toks ∷ out 𝓤 H A W (Names ps) (owned-by κs ps h) (kept-back κs ps h) ∷ []) Γ′
+        (via 𝓤 (sep 𝓤 live-toks (⋆ 𝓤 H A (held ps h))) (pop 𝓤 H A (raw live-toks) (held ps h)) (monoR 𝓤 live-toks (lend-all κs 𝓤 H A W ps h fit))) $
+        move t (1 ∷ []) $ await t z $ pick t (λ δs. let R = c .clauses κs (args κs ps h δs) .requires (c .ghost-at κs h δs) in
+        split t $ use0 W (raw R) (c .enters κs h δs ask) $ move t (3 ∷ 1 ∷ 0 ∷ []) $
+        use3 W (raw (contract-related c .pre (bound c h νs δs))) (assoc′ 𝓤 live-toks (sem 𝓤 H A (owned-by κs ps h δs)) R) $ join t $ k νs δs)))
+
+  module _ (W : Given 𝓤 H A) (C : Calls 𝓤 H) (f : Name) where
+    -- the callee's triple, beside what the caller keeps
+    meets : FmC 𝓤 H (W .laws) C → (c : RelationalCallee 𝓤 H A) → Triple 𝓤 (C f) (contract-related c)
+        → (h : Handed (c .passes)) (νs : News (c .lifetimes)) (δs : Names (c .passes))
+        → ent 𝓤 (mean 𝓤 H A (Pre c h νs δs)) (C f (in-words (c .passes) h) (Post-of c h νs δs))
+    meets fm c known h νs δs =
+        let x = bound c h νs δs in let S = sem 𝓤 H A (stay c h νs δs) in
+        subst (λ (vs : List Val). ent 𝓤 (mean 𝓤 H A (Pre c h νs δs)) (C f vs (Post-of c h νs δs))) (in-words-is (at-lfts c h νs δs) (c .passes) h)
+        (via 𝓤 (sep 𝓤 (C f (contract-related c .args x) (contract-related c .post x)) S) (monoL 𝓤 S (known x))
+        (fm f (contract-related c .args x) (contract-related c .post x) (Post-of c h νs δs) S (λ w. id⊢ 𝓤 _)))
 
   module _ (c : Callee 𝓤 H A) (h : Handed (c .passes)) where
     -- the machine value of the answer, and the entries before and after the call
@@ -377,96 +488,49 @@ module _ {M : Type 1} {𝓤 : URA M} {H : Heap 𝓤} {A : Atoms 𝓤} where
     abbrev pub after-call : List (Item 𝓤)
     after-call = held (c .passes) (after (c .passes) h (c .leaves h))
 
-    -- at the lifetimes νs and the names δs: what the callee's triple binds outside, and what the caller keeps
-    module _ (νs : News (c .lifetimes)) (δs : Names (c .passes)) where
-      abbrev at-lfts : Lfts (c .lifetimes)
-      at-lfts = spans (c .lifetimes) νs
-
-      abbrev live : SProp 𝓤
-      live = toks 𝓤 A (c .lifetimes) at-lfts (fulls (c .lifetimes))
-
-      abbrev bound : contractOf c .Ghost
-      bound = ((at-lfts, fulls (c .lifetimes), tt, args at-lfts (c .passes) h δs, machines at-lfts (c .passes) h), c .ghost-at at-lfts h δs)
-
-      abbrev stay : Fml
-      stay = kept-back at-lfts (c .passes) h δs
-
-      abbrev Pre : Item 𝓤
-      Pre = raw (contractOf c .pre bound) ⊛ ‵ stay
-
-      abbrev Post-of : Val → SProp 𝓤
-      Post-of w = sep 𝓤 (contractOf c .post bound w) (sem 𝓤 H A stay)
-
-    module _ (W : Given 𝓤 H A) {K : Type 0} (Γ : List (Item 𝓤)) (ask : c .asks h) where
-      -- once it has returned w: the slices are back, and w is the machine value of the answer
-      returned : K → (νs : News (c .lifetimes)) (δs : Names (c .passes)) (w : Val) (G : Val → Goal 𝓤 H) → Soaks (G w)
-          → (Is (c .result) (c .answer h) (back ∷ []) → Seq K W (after-call ++ Γ) (G back))
-          → Seq K W (raw (Post-of νs δs w) ∷ Γ) (G w)
-      returned t νs δs w G z k =
-          let κs = at-lfts νs δs in let T = endedOf (c .lifetimes) (c .passes) (c .result) in let a = args κs (c .passes) h δs in let g = c .ghost-at κs h δs in
-          let S = c .result in
-          let Right : Lasts T κs a → S .Denot → Type 0 = λ ws r. (r ≡ c .answer h) × (ends κs (c .passes) a ws ≡ c .leaves h) in
-          use1 W (later (some (λ (r : S .Denot). (raw (live νs δs) ⊛ ‵ (S .own r (w ∷ []))) ⊛ raw (ensured 𝓤 H A T (c .clauses) κs a g r))) ⊛ ‵ (stay νs δs)) (id⊢ 𝓤 _) $ split t $
-          await t z $
-          pick t (λ r.
-          split t $ move t (1 ∷ []) $ use1 W (some (λ (ws : Lasts T κs a). ‵ (Said κs (c .passes) h δs ws) ⊛ raw (c .clauses κs a .ensures g r (atExit T κs a ws)))) (id⊢ 𝓤 _) $
-          pick t (λ ws.
-          split t $ move t (1 ∷ []) $ use1 W (raw (fact 𝓤 (Right ws r))) (c .exact κs h δs r ws ask) $ heard t (Right ws r) (λ e.
-          -- [what says the last lists; the tokens and the result; what is kept]
-          move t (1 ∷ []) $ split t $ move t (1 ∷ []) $ facts t S (Is S) (shows 𝓤 H A S) r (w ∷ []) (λ is.
-          use1 W (later (raw (deads 𝓤 H A (c .lifetimes) κs))) (over 𝓤 H A W (c .lifetimes) νs) $ await t z $ move t (0 ∷ 2 ∷ 1 ∷ []) $
-          use3 W (later (raw (⋆ 𝓤 H A after-call)))
-          (subst (λ (es : Ends (c .passes)). ent 𝓤 (sep 𝓤 (deads 𝓤 H A (c .lifetimes) κs) (sep 𝓤 (sem 𝓤 H A (stay νs δs)) (sem 𝓤 H A (Said κs (c .passes) h δs ws))))
-          (H .⇛ (⋆ 𝓤 H A (held (c .passes) (after (c .passes) h es)))))
-          (e .1) (back-all κs 𝓤 H A W (c .passes) h δs ws)) $ await t z $ cut (raw (⋆ 𝓤 H A after-call) ∷ []) after-call Γ (id⊢ 𝓤 _) $
-          (let is₁ : Is S (c .answer h) (w ∷ []) = subst (λ (x : S .Denot). Is S x (w ∷ [])) (e .0) is in
-          let same : w ∷ [] ≡ back ∷ [] = c .by-value .told (c .answer h) (w ∷ []) is₁ in
-          subst (λ (v : Val). Seq K W (after-call ++ Γ) (G v)) (sym (ap only same)) (k (subst (Is S (c .answer h)) same is₁)))))))
-
-  module _ {K : Type 0} {W : Given 𝓤 H A} {Γ : List (Item 𝓤)} where
-    -- up to the call: the lifetimes are made and the slices lent, and what the callee asks stands at the head beside what the caller keeps
-    ready : K → (c : Callee 𝓤 H A) (h : Handed (c .passes)) → Fit (c .passes) h → c .asks h → (G : Goal 𝓤 H) → Soaks G → Γ ≡ before-call c h ++ beyond (slices (c .passes)) Γ
-        → ((νs : News (c .lifetimes)) (δs : Names (c .passes)) → Seq K W (Pre c h νs δs ∷ beyond (slices (c .passes)) Γ) G) → Seq K W Γ G
-    ready t c h fit ask G z e k =
-        let n = c .lifetimes in let ps = c .passes in let Γ′ = beyond (slices ps) Γ in
-        subst (λ (Δ : List (Item 𝓤)). Seq K W Δ G) (sym e)
-        (use0 W (later (some (λ (νs : News n). raw (toks 𝓤 A n (spans n νs) (fulls n))))) (begun 𝓤 H A W n) $ await t z $ pick t (λ νs.
-        let κs = spans n νs in let live-toks = toks 𝓤 A n κs (fulls n) in
-        cut (raw live-toks ∷ held ps h) (raw live-toks ∷ out 𝓤 H A W (Names ps) (owned-by κs ps h) (kept-back κs ps h) ∷ []) Γ′
-        (via 𝓤 (sep 𝓤 live-toks (⋆ 𝓤 H A (held ps h))) (pop 𝓤 H A (raw live-toks) (held ps h)) (monoR 𝓤 live-toks (lend-all κs 𝓤 H A W ps h fit))) $
-        move t (1 ∷ []) $ await t z $ pick t (λ δs. let R = c .clauses κs (args κs ps h δs) .requires (c .ghost-at κs h δs) in
-        split t $ use0 W (raw R) (c .enters κs h δs ask) $ move t (3 ∷ 1 ∷ 0 ∷ []) $
-        use3 W (raw (contractOf c .pre (bound c h νs δs))) (assoc′ 𝓤 live-toks (sem 𝓤 H A (owned-by κs ps h δs)) R) $ join t $ k νs δs)))
-
-  module _ (W : Given 𝓤 H A) (C : Calls 𝓤 H) (f : Name) where
-    -- the callee's triple, beside what the caller keeps
-    meets : FmC 𝓤 H (W .laws) C → (c : Callee 𝓤 H A) → Triple 𝓤 (C f) (contractOf c) → (h : Handed (c .passes)) (νs : News (c .lifetimes)) (δs : Names (c .passes))
-        → ent 𝓤 (mean 𝓤 H A (Pre c h νs δs)) (C f (in-words (c .passes) h) (Post-of c h νs δs))
-    meets fm c known h νs δs =
-        let x = bound c h νs δs in let S = sem 𝓤 H A (stay c h νs δs) in
-        subst (λ (vs : List Val). ent 𝓤 (mean 𝓤 H A (Pre c h νs δs)) (C f vs (Post-of c h νs δs))) (in-words-is (at-lfts c h νs δs) (c .passes) h)
-        (via 𝓤 (sep 𝓤 (C f (contractOf c .args x) (contractOf c .post x)) S) (monoL 𝓤 S (known x))
-        (fm f (contractOf c .args x) (contractOf c .post x) (Post-of c h νs δs) S (λ w. id⊢ 𝓤 _)))
+    -- the result is the answer, and the lists are those that it leaves
+    at-exact : (X : List (Item 𝓤) → Val → Type 1) → (Is (c .result) (c .answer h) (back ∷ []) → X after-call back) → Then (related c) h X
+    at-exact X k r es e =
+        subst (λ (p : c .result .Denot × Ends (c .passes)). Is (c .result) (p .0) (c .by-value .word (p .0) ∷ [])
+        → X (held (c .passes) (after (c .passes) h (p .1))) (c .by-value .word (p .0)))
+        (λ i. (sym (e .0) i, sym (e .1) i)) k
 
   module _ {K : Type 0} {W : Given 𝓤 H A} {Γ : List (Item 𝓤)} {E : Env 𝓤 H} {C : Calls 𝓤 H} {Λ : Loops 𝓤 H} {q : Post 𝓤 H} {f : Name} {xs : List Operand} {d : Place} where
     -- a call: what is handed over, that its values are of their types, what the callee asks, and that the slices' entries stand first (`refl`)
-    pub calls : K → FmC 𝓤 H (W .laws) C → {rest : Body} (c : Callee 𝓤 H A) → Triple 𝓤 (C f) (contractOf c) → (h : Handed (c .passes)) → Fit (c .passes) h → c .asks h
-        → Γ ≡ before-call c h ++ beyond (slices (c .passes)) Γ → Opds K W (gaps (slices (c .passes)) (beyond (slices (c .passes)) Γ)) E xs (in-words (c .passes) h)
-        → (Is (c .result) (c .answer h) (back c h ∷ []) → Seq K W (after-call c h ++ beyond (slices (c .passes)) Γ) (lands C Λ E d (back c h) rest q))
+    pub calls-related : K → FmC 𝓤 H (W .laws) C → {rest : Body} (c : RelationalCallee 𝓤 H A) → Triple 𝓤 (C f) (contract-related c)
+        → (h : Handed (c .passes)) → Fit (c .passes) h → c .asks h
+        → Γ ≡ held (c .passes) h ++ beyond (slices (c .passes)) Γ → Opds K W (gaps (slices (c .passes)) (beyond (slices (c .passes)) Γ)) E xs (in-words (c .passes) h)
+        → Then c h (λ Δ v. Seq K W (Δ ++ beyond (slices (c .passes)) Γ) (lands C Λ E d v rest q))
         → Seq K W Γ (runs C Λ E (seq (call f xs d) rest) q)
-    calls t fm {rest} c known h fit ask e os k = let k′ = slices (c .passes) in
+    calls-related t fm {rest} c known h fit ask e os k = let k′ = slices (c .passes) in
         ready t c h fit ask (runs C Λ E (seq (call f xs d) rest) q) tt e (λ νs δs.
         calls-from t fm (Pre c h νs δs) (in-words (c .passes) h) (Post-of c h νs δs) (meets W C f fm c known h νs δs)
         (over-gaps 𝓤 H A W (beyond k′ Γ) (in-words (c .passes) h) k′ (Pre c h νs δs) os)
         (λ w. returned c h W (beyond k′ Γ) ask t νs δs w (λ v. lands C Λ E d v rest q) tt k))
 
     -- the same of a call that is the last statement of its part, as of an arm of a branch or of a turn
-    pub calls-last : K → FmC 𝓤 H (W .laws) C → (c : Callee 𝓤 H A) → Triple 𝓤 (C f) (contractOf c) → (h : Handed (c .passes)) → Fit (c .passes) h → c .asks h
-        → Γ ≡ before-call c h ++ beyond (slices (c .passes)) Γ → Opds K W (gaps (slices (c .passes)) (beyond (slices (c .passes)) Γ)) E xs (in-words (c .passes) h)
-        → (Is (c .result) (c .answer h) (back c h ∷ []) → Seq K W (after-call c h ++ beyond (slices (c .passes)) Γ) (settles E d (back c h) q))
+    pub calls-related-last : K → FmC 𝓤 H (W .laws) C → (c : RelationalCallee 𝓤 H A) → Triple 𝓤 (C f) (contract-related c)
+        → (h : Handed (c .passes)) → Fit (c .passes) h → c .asks h
+        → Γ ≡ held (c .passes) h ++ beyond (slices (c .passes)) Γ → Opds K W (gaps (slices (c .passes)) (beyond (slices (c .passes)) Γ)) E xs (in-words (c .passes) h)
+        → Then c h (λ Δ v. Seq K W (Δ ++ beyond (slices (c .passes)) Γ) (settles E d v q))
         → Seq K W Γ (runs C Λ E (call f xs d) q)
-    calls-last t fm c known h fit ask e os k = let k′ = slices (c .passes) in
+    calls-related-last t fm c known h fit ask e os k = let k′ = slices (c .passes) in
         ready t c h fit ask (runs C Λ E (call f xs d) q) tt e (λ νs δs.
         calls-from-last t fm (Pre c h νs δs) (in-words (c .passes) h) (Post-of c h νs δs) (meets W C f fm c known h νs δs)
         (over-gaps 𝓤 H A W (beyond k′ Γ) (in-words (c .passes) h) k′ (Pre c h νs δs) os)
         (λ w. returned c h W (beyond k′ Γ) ask t νs δs w (λ v. settles E d v q) tt k))
+
+    -- both of a callee that says its result and its last lists exactly
+    pub calls : K → FmC 𝓤 H (W .laws) C → {rest : Body} (c : Callee 𝓤 H A) → Triple 𝓤 (C f) (contractOf c) → (h : Handed (c .passes)) → Fit (c .passes) h → c .asks h
+        → Γ ≡ before-call c h ++ beyond (slices (c .passes)) Γ → Opds K W (gaps (slices (c .passes)) (beyond (slices (c .passes)) Γ)) E xs (in-words (c .passes) h)
+        → (Is (c .result) (c .answer h) (back c h ∷ []) → Seq K W (after-call c h ++ beyond (slices (c .passes)) Γ) (lands C Λ E d (back c h) rest q))
+        → Seq K W Γ (runs C Λ E (seq (call f xs d) rest) q)
+    calls t fm {rest} c known h fit ask e os k =
+        calls-related t fm (related c) known h fit ask e os (at-exact c h (λ Δ v. Seq K W (Δ ++ beyond (slices (c .passes)) Γ) (lands C Λ E d v rest q)) k)
+
+    pub calls-last : K → FmC 𝓤 H (W .laws) C → (c : Callee 𝓤 H A) → Triple 𝓤 (C f) (contractOf c) → (h : Handed (c .passes)) → Fit (c .passes) h → c .asks h
+        → Γ ≡ before-call c h ++ beyond (slices (c .passes)) Γ → Opds K W (gaps (slices (c .passes)) (beyond (slices (c .passes)) Γ)) E xs (in-words (c .passes) h)
+        → (Is (c .result) (c .answer h) (back c h ∷ []) → Seq K W (after-call c h ++ beyond (slices (c .passes)) Γ) (settles E d (back c h) q))
+        → Seq K W Γ (runs C Λ E (call f xs d) q)
+    calls-last t fm c known h fit ask e os k =
+        calls-related-last t fm (related c) known h fit ask e os (at-exact c h (λ Δ v. Seq K W (Δ ++ beyond (slices (c .passes)) Γ) (settles E d v q)) k)

@@ -7,3 +7,4 @@ pub mod Locals
 pub mod Walks
 pub mod Branches
 pub mod ByRule
+pub mod Arrays

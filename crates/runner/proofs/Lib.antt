@@ -1,0 +1,9 @@
+pub mod Plans
+pub mod Lines
+pub mod Lengths
+pub mod Theorems
+pub mod EventRuns
+pub mod Runs
+pub mod Outcomes
+pub mod LogTexts
+pub mod Known

@@ -1,0 +1,32 @@
+-- In each case the rule computes the number.
+use borrow.Author.Needs.{needs}
+use Rattle.benchfile.specs.Calls.{readAnswer}
+use Rattle.runner.specs.Steps.{numberOf}
+use Rattle.runner.proofs.reading.reply_number.Statement.{statement}
+use Rattle.runner.proofs.reading.reply_number.Tie as tie
+
+pub reply-number-spec : {M : Type 1} → statement M
+unfolding numberOf readAnswer
+reply-number-spec =
+    tie.close
+    (tie.spec
+    (λ c. search needs)
+    (λ c. search needs)
+    (λ c. search needs)
+    (λ c. search needs)
+    (λ c. search needs)
+    (λ c. search needs)
+    (λ c. search needs)
+    (λ c. search needs)
+    (λ c. search needs)
+    (λ c. search needs)
+    (λ c. rw (c .enum-told .given .1))
+    (λ c. rw (c .enum-told2 .given .1))
+    (λ c. rw (c .enum-told3 .given .1))
+    (λ c. rw (c .enum-told4 .given .1))
+    (λ c. rw (c .enum-told5 .given .1))
+    (λ c. rw (c .enum-told6 .given .1))
+    (λ c. rw (c .enum-told7 .given .1))
+    (λ c. rw (c .enum-told8 .given .1))
+    (λ c. rw (c .enum-told9 .given .1))
+    (λ c. rw (c .enum-told10 .given .1)))

@@ -1,0 +1,74 @@
+-- The loop's invariant: with the logs from `u` on written from `next` on, all are written from `at` on; the list keeps its length.
+use borrow.Author.Needs.{needs}
+use mathlib.Core.Path.{_≡_}
+use mathlib.Core.List.{List}
+use Prim.Native.Nat.{ℕ, _-_, _≤_}
+use native.Mathlib.Nat.{le-trans}
+use lib.ListN.{length, drop}
+use Rattle.benchfile.specs.File.{ended}
+use Rattle.line_writer.proofs.Texts.{Remains, remains-next, remains-none}
+use Rattle.runner.specs.Steps.{HandsBack, logLines}
+use Rattle.runner.proofs.LogTexts.{logs-next, logs-end}
+use Rattle.runner.proofs.results.put_logs.Statement.{statement}
+use Rattle.runner.proofs.results.put_logs.Tie as tie
+
+abbrev Inv-loop : tie.InvT-loop
+Inv-loop bench units book out₀ at next₀ u₀ out next u = (length out ≡ length out₀) × (units ≤ 32 → (logs : ℕ → List ℕ) → HandsBack bench book logs
+    → Remains (ended (drop u (logLines units logs))) (ended (logLines units logs)) at out₀ next out)
+
+abbrev μ-loop : tie.MeasureT-loop
+μ-loop bench units book out₀ at next₀ u₀ out next u = 32 - u
+
+loop-holds : tie.Need-loop-holds Inv-loop μ-loop
+loop-holds c = (search needs, λ small logs back place left w. w)
+
+cast-if1 : tie.Need-cast-if1 Inv-loop μ-loop
+cast-if1 c = search needs
+
+same-length : tie.Need-same-length Inv-loop μ-loop
+same-length c = c .before .before .loop .inv .0
+
+returns : tie.Need-returns Inv-loop μ-loop
+returns c = λ small logs back. remains-none (rw (logs-end _ _ logs (c .if1 .taken)) at (c .before .before .loop .inv .1 small logs back))
+
+put-unit-requires : tie.Need-put-unit-requires Inv-loop μ-loop
+put-unit-requires c κs = search needs
+
+add-u : tie.Need-add-u Inv-loop μ-loop
+add-u c = search needs
+
+loop-less : tie.Need-loop-less Inv-loop μ-loop
+loop-less c = search needs
+
+loop-again : tie.Need-loop-again Inv-loop μ-loop
+loop-again c =
+    let call = c .before .before in
+    let test = call .before .before in
+    let loop = test .before .before .loop in (
+      search needs,
+      λ small logs back. remains-next (rw (logs-next _ _ logs (test .if1 .left)) at (loop .inv .1 small logs back)) (call .put-unit .ensures logs back),
+    )
+
+same-length-2 : tie.Need-same-length-2 Inv-loop μ-loop
+same-length-2 c = c .before .loop .inv .0
+
+returns-2 : tie.Need-returns-2 Inv-loop μ-loop
+returns-2 c = λ small logs back.
+    remains-none (rw (logs-end _ _ logs (le-trans small (c .loop-test .left))) at (c .before .loop .inv .1 small logs back))
+
+pub put-logs-spec : {M : Type 1} → statement M
+put-logs-spec =
+    tie.close
+    (tie.spec
+    Inv-loop
+    μ-loop
+    loop-holds
+    cast-if1
+    same-length
+    returns
+    put-unit-requires
+    add-u
+    loop-less
+    loop-again
+    same-length-2
+    returns-2)

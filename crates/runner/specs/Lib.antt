@@ -1,0 +1,4 @@
+pub mod Printed
+pub mod Claims
+pub mod Steps
+pub mod Impostors

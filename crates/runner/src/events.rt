@@ -1,0 +1,230 @@
+// The events of a file, run on a bench one after the other; the line of a refused event is printed at once.
+use relay::ArriveReply;
+use relay::Arrived;
+use relay::Bench;
+use relay::Fresh;
+use relay::SendReply;
+use relay::Sent;
+ghost use mathlib.Core.Path.{_≡_};
+ghost use Prim.Native.Nat.{_-_};
+ghost use lib.ListN.{getD};
+ghost use Rattle.model.specs.Demand3.{carried};
+ghost use Rattle.relay.specs.Replies.{sendAnswer, arriveAnswer};
+ghost use Rattle.runner.specs.Steps.{begunWith, isGoing, eventAt, isSend, refusalOf, afterSend, afterArrive, EventRun, Noted, EventsRun};
+
+// How far a run has come.
+pub struct Progress {
+    pub bench: Bench,
+    // the place after what was printed
+    pub at: usize,
+    // how many events were run, and the line of the next
+    pub count: u16,
+    pub line: u16,
+    // the sum of the numbers that the answers of taken carry
+    pub taken: u16,
+    // why the last event was turned away: document 01's number, or 0
+    pub refusal: u8,
+}
+
+// An event as it stands in the list (document 01): a send is source+1, group, word, an arrive 0, hop, 0.
+pub struct Event {
+    pub first: u16,
+    pub second: u16,
+    pub third: u16,
+}
+
+// Before the first event, which stands in the fourth line after those of the groups.
+pub fn begun(fresh: Fresh, groups: usize) -> Progress
+    ensures { λ r. ⌜ r ≡ begunWith fresh groups ⌝ }
+{
+    let bench = fresh.bench;
+    Progress {
+        bench,
+        at: 0,
+        count: 0,
+        line: tables::plus((groups % 65536) as u16, 4),
+        taken: 0,
+        refusal: 0,
+    }
+}
+
+// Whether there is one event more. A list has at most 3,000.
+fn is_going(p: Progress, list: &[u16]) -> bool
+    ensures { λ r. ⌜ r ≡ isGoing p (now (list .entry)) ⌝ }
+{
+    if 3000 <= p.count {
+        return false;
+    }
+    3 * (p.count as usize) < list.len()
+}
+
+// Number i of a list; 0 past its end.
+fn number_at(list: &[u16], i: usize) -> u16
+    ensures { λ r. ⌜ r ≡ getD (now (list .entry)) i 0 ⌝ }
+{
+    if i < list.len() {
+        return list[i];
+    }
+    0
+}
+
+// The next event.
+fn event_at(p: Progress, list: &[u16]) -> Event
+    ensures { λ r. ⌜ r ≡ eventAt p (now (list .entry)) ⌝ }
+{
+    let i = 3 * (p.count as usize);
+    Event {
+        first: number_at(list, i),
+        second: number_at(list, i + 1),
+        third: number_at(list, i + 2),
+    }
+}
+
+fn is_send(e: Event) -> bool
+    ensures { λ r. ⌜ r ≡ isSend e ⌝ }
+{
+    e.first != 0
+}
+
+// The source of a send.
+fn source(e: Event) -> u16
+    ensures { λ r. ⌜ r ≡ e .first - 1 ⌝ }
+{
+    if e.first == 0 {
+        return 0;
+    }
+    e.first - 1
+}
+
+fn second(e: Event) -> u16
+    ensures { λ r. ⌜ r ≡ e .second ⌝ }
+{
+    e.second
+}
+
+fn third(e: Event) -> u16
+    ensures { λ r. ⌜ r ≡ e .third ⌝ }
+{
+    e.third
+}
+
+pub fn bench_of(p: Progress) -> Bench
+    ensures { λ r. ⌜ r ≡ p .bench ⌝ }
+{
+    p.bench
+}
+
+// Why a send was turned away: document 01's number, or 0.
+fn send_refusal(reply: SendReply) -> u8
+    ensures { λ r. ⌜ r ≡ refusalOf (sendAnswer reply) ⌝ }
+{
+    match reply {
+        SendReply::Sent(_) => 0,
+        SendReply::ListTooShort => 1,
+        SendReply::NoSuchUnit => 12,
+        SendReply::NoSuchGroup => 13,
+        SendReply::TooManyMessages => 14,
+        SendReply::RoutesTooLong => 15,
+    }
+}
+
+// Why an arrival was turned away: document 01's number, or 0.
+fn arrive_refusal(reply: ArriveReply) -> u8
+    ensures { λ r. ⌜ r ≡ refusalOf (arriveAnswer reply) ⌝ }
+{
+    match reply {
+        ArriveReply::Taken(_) => 0,
+        ArriveReply::Held => 0,
+        ArriveReply::Repeat => 0,
+        ArriveReply::ListTooShort => 1,
+        ArriveReply::NotMade => 16,
+    }
+}
+
+// The number that an answer of taken carries; held, repeat and refusal carry none.
+fn carried_by(reply: ArriveReply) -> u16
+    ensures { λ r. ⌜ r ≡ carried (arriveAnswer reply) ⌝ }
+{
+    let ArriveReply::Taken(n) = reply else {
+        return 0;
+    };
+    n
+}
+
+fn after_send(p: Progress, sent: Sent) -> Progress
+    ensures { λ r. ⌜ r ≡ afterSend p sent ⌝ }
+{
+    let bench = sent.bench;
+    let reply = sent.reply;
+    Progress {
+        bench,
+        at: p.at,
+        count: p.count,
+        line: p.line,
+        taken: p.taken,
+        refusal: send_refusal(reply),
+    }
+}
+
+fn after_arrive(p: Progress, arrived: Arrived) -> Progress
+    ensures { λ r. ⌜ r ≡ afterArrive p arrived ⌝ }
+{
+    let bench = arrived.bench;
+    let reply = arrived.reply;
+    Progress {
+        bench,
+        at: p.at,
+        count: p.count,
+        line: p.line,
+        taken: tables::plus(p.taken, carried_by(reply)),
+        refusal: arrive_refusal(reply),
+    }
+}
+
+// Runs one event.
+fn run_event(p: Progress, e: Event, hops: &mut [model::Hop], book: &mut [u16]) -> Progress
+    ensures { λ r. ⌜ EventRun p e (now (hops .entry)) (now (book .entry)) r (now (hops .exit)) (now (book .exit)) ⌝ }
+{
+    let bench = bench_of(p);
+    let group = second(e);
+    if is_send(e) {
+        let sent = bench.send(source(e), group, third(e), hops);
+        return after_send(p, sent);
+    }
+    let arrived = bench.arrive(group, hops, book);
+    after_arrive(p, arrived)
+}
+
+// Prints the line of the last event if it was turned away, and goes on to the next.
+fn noted(p: Progress, out: &mut [u8]) -> Progress
+    ensures { λ r. ⌜ Noted p (now (out .entry)) r (now (out .exit)) ⌝ }
+{
+    let mut next = p;
+    next.count = tables::plus(p.count, 1);
+    next.line = tables::plus(p.line, 1);
+    next.refusal = 0;
+    if p.refusal != 0 {
+        next.at = output_lines::put_refusal(out, p.at, p.line, p.refusal as u16);
+    }
+    next
+}
+
+// Runs the events of a list.
+pub fn run_events(
+    start: Progress,
+    list: &[u16],
+    hops: &mut [model::Hop],
+    book: &mut [u16],
+    out: &mut [u8],
+) -> Progress
+    ensures { λ r. ⌜ EventsRun (now (list .entry)) start (now (hops .entry)) (now (book .entry)) (now (out .entry))
+        r (now (hops .exit)) (now (book .exit)) (now (out .exit)) ⌝ }
+{
+    let mut p = start;
+    while is_going(p, list) {
+        let e = event_at(p, list);
+        let q = run_event(p, e, hops, book);
+        p = noted(q, out);
+    }
+    p
+}

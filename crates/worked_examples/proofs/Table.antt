@@ -1,0 +1,71 @@
+-- The rules give every outcome of the table P1 to P10, by computation; and its forests meet the premise of demand 3. Assumes nothing.
+use mathlib.Core.Path.{_≡_, refl, ap}
+use mathlib.Core.List.{List, [], _∷_, map}
+use Prim.Native.Nat.{ℕ}
+use lib.ListN.{getD}
+use lib.Count.{onesIn, trailingZeros}
+use Rattle.sets.specs.Sets.{member, single, below, union, intersection, difference, including, includingIf, size, lowest, collect}
+use Rattle.layout.specs.Tables.{tabulate}
+use Rattle.layout.specs.Build.{holdsAt, absorbed, groupsOf, degree, setAside, spread, rounds, component, betterOf}
+use Rattle.layout.specs.Build.{largestWithin, root, parentWithin, builtParent, built as built-forest}
+use Rattle.forest.specs.Forest.{onRoute, lacksPrimary, parent, ancestorsWithin, ancestors, above, ownAncestor, aboveEvery}
+use Rattle.forest.specs.Forest.{aboveSome, primary, hasPrimary, route, forwarders, routeSize, cyclicUnits, withoutPrimary}
+use Rattle.forest.specs.Calls.{countedAt, drawnAt, emptyAt, outsideAt, outsideParent, counted, drawn, badCounts}
+use Rattle.forest.specs.Calls.{emptyGroups, outsideGroups, outsideParents, refuse, groupsRefusal, drawingRefusal, orRoots}
+use Rattle.forest.specs.Calls.{buildRefusal, buildParents, checkRefusal, checkParents}
+use Rattle.model.specs.Network.{sumOf, bit, groupOf, primaryOf, routeOf, routeSizeOf, fresh, messageAt, hopAt, logOf, hopsOf, isOut, isHeld, isTaken}
+use Rattle.model.specs.Network.{withState, setState, isPair, countHops, pairCount, newHop, made}
+use Rattle.model.specs.Rules.{refuse as refuse-call, refused, routeTotal, send, push, rising, childrenOn, forward, logged, takeHop, lower, lowestUntaken}
+use Rattle.model.specs.Rules.{placeOf, isHeldAt, nextHeld, tally, settle, hold, arrive, allTaken, quiescent}
+use Rattle.model.specs.Calls.{call, recorded, step as step-call, runFrom, run}
+use Rattle.model.specs.Demand3.{Planned, built, checked}
+use Rattle.text.specs.Text.{isBad, digit, number, decimalWithin, decimal, inFront, split, join, startsWith, after, isWord, some}
+use Rattle.lines.specs.Lines.{refuse as refuse-line, unitsKey, groupsKey, groupKey, parentsKey, sendKey, arriveKey, buildWord, rootWord, numbersIn}
+use Rattle.lines.specs.Lines.{countIn, countFault, unitsFault, groupsFault, countLine, risesFrom, groupIn, groupFault}
+use Rattle.lines.specs.Lines.{entry as entry-in, entriesIn, parentOf, parentsIn, parentsFault, isBuild, parentsTable, badSend, eventFault, eventIn}
+use Rattle.benchfile.specs.File.{next, step, finish, steps, readFile, ended}
+use Rattle.benchfile.specs.Calls.{contentOf}
+use Rattle.output_lines.specs.Output.{refusedKey, logKey, hopsKey, restKey, answerWord, refusedLine, messageTexts, logLine, hopsLine, restLine}
+use Rattle.runner.specs.Printed.{forestRefusal, forestParents, planOf, callFor, onForest, resultOf, result, refusedAs, refusedEvents, runLines}
+use Rattle.runner.specs.Printed.{resultLines, printed}
+use Rattle.worked_examples.specs.Table.{Outcome, Refusal, Parents}
+use Rattle.worked_examples.specs.Table.{forestOutcome, routeOutcome, answerIn, runOutcome, drawnPlan, outcome, C, drawnC, of32, sends, arrives}
+use Rattle.worked_examples.specs.Table.{fileP8, printsP8, fileP10, printsP10, table, stated, computed}
+
+pub table-holds : map computed table ≡ map stated table
+unfolding onesIn trailingZeros member single below union intersection difference including includingIf size lowest collect tabulate
+    holdsAt absorbed groupsOf degree setAside spread rounds component betterOf largestWithin root parentWithin builtParent built-forest
+    onRoute lacksPrimary parent ancestorsWithin ancestors above ownAncestor aboveEvery aboveSome primary hasPrimary route forwarders routeSize
+    cyclicUnits withoutPrimary countedAt drawnAt emptyAt outsideAt outsideParent counted drawn badCounts emptyGroups outsideGroups
+    outsideParents refuse groupsRefusal drawingRefusal orRoots buildRefusal buildParents checkRefusal checkParents
+    sumOf bit groupOf primaryOf routeOf routeSizeOf fresh messageAt hopAt logOf hopsOf isOut isHeld isTaken withState setState isPair countHops
+    pairCount newHop made refuse-call refused routeTotal send push rising childrenOn forward logged takeHop lower lowestUntaken placeOf
+    isHeldAt nextHeld tally settle hold arrive allTaken quiescent call recorded step-call runFrom run
+    isBad digit number decimalWithin decimal inFront split join startsWith after isWord some
+    refuse-line unitsKey groupsKey groupKey parentsKey sendKey arriveKey buildWord rootWord numbersIn countIn countFault unitsFault groupsFault
+    countLine risesFrom groupIn groupFault entry-in entriesIn parentOf parentsIn parentsFault isBuild parentsTable badSend eventFault eventIn
+    next step finish steps readFile ended contentOf
+    refusedKey logKey hopsKey restKey answerWord refusedLine messageTexts logLine hopsLine restLine
+    forestRefusal forestParents planOf callFor onForest resultOf result refusedAs refusedEvents runLines resultLines printed
+    forestOutcome routeOutcome answerIn runOutcome drawnPlan outcome C drawnC of32 sends arrives fileP8 printsP8 fileP10 printsP10 table stated computed
+table-holds = refl
+
+-- ---- the premise of demand 3 is met, by a check and by a build
+
+unrefused : (refusal parents given : List ℕ) → forestOutcome refusal parents ≡ Parents given → refusal ≡ []
+unfolding forestOutcome
+unrefused [] ps qs e = refl
+unrefused (number ∷ values) ps qs e = cc
+
+-- the outcome of the table's entry i
+entry-holds : (i : ℕ) → getD (map computed table) i (Refusal []) ≡ getD (map stated table) i (Refusal [])
+entry-holds i = ap (λ (l : List Outcome). getD l i (Refusal [])) table-holds
+
+-- P4's forest, and P1's
+pub C-planned : Planned (drawnPlan 4 C drawnC)
+unfolding drawnPlan table computed stated outcome
+C-planned = checked drawnC (unrefused _ _ _ (entry-holds 4)) refl
+
+pub P1-planned : Planned (record { units = 4; count = 2; groups = 11 ∷ 14 ∷ []; parents = buildParents 4 2 (11 ∷ 14 ∷ []) })
+unfolding table computed stated outcome
+P1-planned = built (unrefused _ _ _ (entry-holds 0)) refl

@@ -1,4 +1,4 @@
--- Document 01's run P8 and some refused files, by computation. Assumes nothing.
+-- A good file and some refused ones, by computation. Document 01's run P8 is in the crate worked_examples. Assumes nothing.
 use mathlib.Core.Path.{_≡_, refl}
 use mathlib.Core.List.{List, [], _∷_}
 use Prim.Native.Nat.{ℕ}
@@ -10,32 +10,19 @@ use Rattle.lines.specs.Lines.{Drawn, entry, entriesIn, parentOf, parentsIn, par
 use Rattle.lines.specs.Lines.{Send, Arrive, badSend, eventFault, eventIn, eventLine}
 use Rattle.benchfile.specs.File.{File, Refused, Good, next, step, finish, steps, readFile, linesOf, ended, textOf}
 
--- P8: bench C, drawn as P4, with its events
-abbrev pub p8 : List ℕ
-p8 =
-    117 ∷ 110 ∷ 105 ∷ 116 ∷ 115 ∷ 61 ∷ 52 ∷ 10 ∷
-    103 ∷ 114 ∷ 111 ∷ 117 ∷ 112 ∷ 115 ∷ 61 ∷ 52 ∷ 10 ∷
-    103 ∷ 114 ∷ 111 ∷ 117 ∷ 112 ∷ 61 ∷ 48 ∷ 44 ∷ 51 ∷ 10 ∷
+-- two units, a group of both, drawn; a send and an arrive
+abbrev pub good : List ℕ
+good =
+    117 ∷ 110 ∷ 105 ∷ 116 ∷ 115 ∷ 61 ∷ 50 ∷ 10 ∷
+    103 ∷ 114 ∷ 111 ∷ 117 ∷ 112 ∷ 115 ∷ 61 ∷ 49 ∷ 10 ∷
     103 ∷ 114 ∷ 111 ∷ 117 ∷ 112 ∷ 61 ∷ 48 ∷ 44 ∷ 49 ∷ 10 ∷
-    103 ∷ 114 ∷ 111 ∷ 117 ∷ 112 ∷ 61 ∷ 50 ∷ 44 ∷ 51 ∷ 10 ∷
-    103 ∷ 114 ∷ 111 ∷ 117 ∷ 112 ∷ 61 ∷ 49 ∷ 44 ∷ 50 ∷ 10 ∷
-    112 ∷ 97 ∷ 114 ∷ 101 ∷ 110 ∷ 116 ∷ 115 ∷ 61 ∷ 45 ∷ 44 ∷ 50 ∷ 44 ∷ 48 ∷ 44 ∷ 50 ∷ 10 ∷
-    115 ∷ 101 ∷ 110 ∷ 100 ∷ 61 ∷ 51 ∷ 44 ∷ 48 ∷ 44 ∷ 53 ∷ 48 ∷ 48 ∷ 10 ∷
-    115 ∷ 101 ∷ 110 ∷ 100 ∷ 61 ∷ 49 ∷ 44 ∷ 50 ∷ 44 ∷ 54 ∷ 48 ∷ 48 ∷ 10 ∷
-    97 ∷ 114 ∷ 114 ∷ 105 ∷ 118 ∷ 101 ∷ 61 ∷ 48 ∷ 10 ∷
-    97 ∷ 114 ∷ 114 ∷ 105 ∷ 118 ∷ 101 ∷ 61 ∷ 49 ∷ 10 ∷
-    97 ∷ 114 ∷ 114 ∷ 105 ∷ 118 ∷ 101 ∷ 61 ∷ 50 ∷ 10 ∷
-    97 ∷ 114 ∷ 114 ∷ 105 ∷ 118 ∷ 101 ∷ 61 ∷ 52 ∷ 10 ∷
-    97 ∷ 114 ∷ 114 ∷ 105 ∷ 118 ∷ 101 ∷ 61 ∷ 51 ∷ 10 ∷ []
+    112 ∷ 97 ∷ 114 ∷ 101 ∷ 110 ∷ 116 ∷ 115 ∷ 61 ∷ 45 ∷ 44 ∷ 48 ∷ 10 ∷
+    115 ∷ 101 ∷ 110 ∷ 100 ∷ 61 ∷ 49 ∷ 44 ∷ 48 ∷ 44 ∷ 54 ∷ 53 ∷ 53 ∷ 51 ∷ 53 ∷ 10 ∷
+    97 ∷ 114 ∷ 114 ∷ 105 ∷ 118 ∷ 101 ∷ 61 ∷ 48 ∷ 10 ∷ []
 
 -- what it says
-abbrev pub p8File : File
-p8File = record {
-  units = 4;
-  groups = 9 ∷ 3 ∷ 12 ∷ 6 ∷ [];
-  parents = Drawn (255 ∷ 2 ∷ 0 ∷ 2 ∷ []);
-  events = Send 3 0 500 ∷ Send 1 2 600 ∷ Arrive 0 ∷ Arrive 1 ∷ Arrive 2 ∷ Arrive 4 ∷ Arrive 3 ∷ [];
-}
+abbrev pub goodFile : File
+goodFile = record { units = 2; groups = 3 ∷ []; parents = Drawn (255 ∷ 0 ∷ []); events = Send 1 0 65535 ∷ Arrive 0 ∷ [] }
 
 -- `units=1` with CR LF: 4 at line 1
 abbrev pub crlf : List ℕ
@@ -84,10 +71,10 @@ doubled =
     10 ∷ []
 
 pub record Examples : Type 0 where
-  pub read : readFile 9000 p8 ≡ Good p8File
-  pub written : textOf p8File ≡ p8
+  pub read : readFile 9000 good ≡ Good goodFile
+  pub written : textOf goodFile ≡ good
   pub empty : readFile 9000 [] ≡ Refused (3 ∷ 1 ∷ [])
-  pub short : readFile 8999 p8 ≡ Refused (1 ∷ [])
+  pub short : readFile 8999 good ≡ Refused (1 ∷ [])
   pub crlf-refused : readFile 9000 crlf ≡ Refused (4 ∷ 1 ∷ [])
   pub leadingZero-refused : readFile 9000 leadingZero ≡ Refused (4 ∷ 1 ∷ [])
   pub units33-refused : readFile 9000 units33 ≡ Refused (5 ∷ 1 ∷ [])

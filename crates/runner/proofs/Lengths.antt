@@ -12,9 +12,8 @@ use Rattle.sets.proofs.Bools.{either}
 use Rattle.layout.specs.Tables.{tabulate}
 use Rattle.text.specs.Text.{decimalWithin, decimal}
 use Rattle.lines.specs.Lines.{countLine}
-use Rattle.model.specs.Network.{Plan, hopsOf, logOf}
-use Rattle.model.specs.Rules.{Answer, Refused, Sent, Repeat, Held, Taken, quiescent}
-use Rattle.model.specs.Calls.{Answered, answered, Run, ran, run, networkOf, historyOf}
+use Rattle.model.specs.Rules.{Answer, Refused, Sent, Repeat, Held, Taken}
+use Rattle.model.specs.Calls.{Answered, answered, run, historyOf}
 use Rattle.model.specs.Claims.{callOf}
 use Rattle.model.proofs.Theorems.{reading, limits}
 use Rattle.benchfile.specs.File.{File, Outcome, Refused as RefusedFile, Good, readFile, ended}
@@ -22,9 +21,10 @@ use Rattle.benchfile.specs.Calls.{contentOf}
 use Rattle.benchfile.proofs.RoundTrip.{read-good}
 use Rattle.benchfile.proofs.WrittenLines.{ended-append}
 use Rattle.output_lines.specs.Output.{refusedKey, logKey, hopsKey, restKey, answerWord, refusedLine, messageTexts, logLine, hopsLine, restLine}
-use Rattle.runner.specs.Printed.{forestRefusal, planOf, callFor, RanFrom, onForest, resultOf, result}
-use Rattle.runner.specs.Printed.{refusedAs, refusedEvents, runLines, resultLines, printed}
+use Rattle.runner.specs.Printed.{forestRefusal, planOf, callFor, onForest, resultOf, result}
+use Rattle.runner.specs.Printed.{refusedAs, refusedEvents, logLines, runLines, resultLines, printed}
 use Rattle.runner.proofs.Plans.{plan-planned}
+use Rattle.runner.proofs.RunResults.{result-lines}
 
 -- ---- one line
 
@@ -100,10 +100,10 @@ table-length m (suc n) f h =
 
 lines-fit : (k : ℕ) (past : List Answered) (units : ℕ) (logs : ℕ → List ℕ) (hops : ℕ) (rest : Bool)
     → length past ≤ 3000 → units ≤ 32 → ((u : ℕ) → length (logs u) ≤ 200) → length (ended (runLines k past units logs hops rest)) ≤ 98740
-unfolding runLines ended
+unfolding runLines logLines ended
 lines-fit k past units logs hops rest few small short =
     let events = refusedEvents k past in
-    let table = tabulate units (λ u. logLine u (logs u)) in
+    let table = logLines units logs in
     let end = restLine rest ∷ [] in
     omega (
       arith,
@@ -120,13 +120,6 @@ lines-fit k past units logs hops rest few small short =
 refused-fits : (line number : ℕ) → length (ended (refusedLine line number ∷ [])) ≤ 98740
 refused-fits line number = omega (arith, refusal-length line number)
 
--- the lines of a run, read off what it left and answered
-pub run-lines : (k : ℕ) (P : Plan) (r : Run)
-    → resultLines (RanFrom k P r)
-    ≡ runLines k (historyOf r) (P .units) (λ u. logOf u (networkOf r)) (length (hopsOf (networkOf r))) (quiescent (networkOf r))
-unfolding resultLines historyOf networkOf
-run-lines k P (ran W past) = refl
-
 module _ (file : List ℕ) where
   run-fits : (F : File) → readFile 9000 file ≡ Good F → forestRefusal (contentOf F) ≡ []
       → length (ended (resultLines (onForest [] F))) ≤ 98740
@@ -139,7 +132,7 @@ module _ (file : List ℕ) where
       let good = read-good 9000 file F e in
       let few : length (historyOf r) ≤ 3000 =
       omega (arith, length-map (historyOf r) callOf, ap length (reading P planned cs .calls), length-map (F .events) callFor, good .total) in
-      rw (run-lines (4 + length (F .groups)) P r) (lines-fit _ _ _ _ _ _ few (good .most) (limits P planned cs .log))
+      rw (result-lines (4 + length (F .groups)) P r) (lines-fit _ _ _ _ _ _ few (good .most) (limits P planned cs .log))
 
   forest-fits : (F : File) → readFile 9000 file ≡ Good F → (refusal : List ℕ) → forestRefusal (contentOf F) ≡ refusal
       → length (ended (resultLines (onForest refusal F))) ≤ 98740

@@ -8,7 +8,7 @@ use lib.Seq.{drop-cons}
 use Rattle.layout.proofs.Tables.{length-tabulate, getD-tabulate}
 use Rattle.benchfile.specs.File.{ended}
 use Rattle.output_lines.specs.Output.{logLine}
-use Rattle.runner.specs.Steps.{logLines}
+use Rattle.runner.specs.Printed.{logLines}
 
 module _ (n u : ℕ) (logs : ℕ → List ℕ) where
   -- the log of u, and those after it

@@ -6,7 +6,7 @@ use Prim.Native.Nat.{ℕ, _+_, _*_, _%_, _≤_, _<_}
 use native.Mathlib.Nat.{suc-ne-zero, lt-irrefl}
 use native.Mathlib.Omega.{arith}
 use borrow.Author.Tests.{lt-ltb, le-ltb}
-use lib.ListN.{length, getD, take, replicate, length-append, length-drop}
+use lib.ListN.{length, getD, take, replicate, length-append, length-drop, length-replicate}
 use lib.Seq.{length-take-le, take-append-seam}
 use Rattle.forest.specs.declared.Verdict.{Verdict}
 use Rattle.forest.specs.declared.Verdict.the-variants.{Accepted, BadCounts, EmptyGroup, OutsideUnits, OwnAncestor, NoPrimary}
@@ -61,7 +61,7 @@ module _ {c : Content} {line n : ℕ} {list out left : List ℕ} {r : RunAnswer}
     refused = λ number values e. absurd (suc-ne-zero (length values) (ap length (sym e ∙ sym same ∙ no-number v (sym is ∙ none))));
     ran = λ e es listed few.
         let B′ = subst (λ (qs : List ℕ). BenchRun (c .units) (c .count) (c .groups) qs list (replicate 2000 noHop) book out t hops book′ left) parents B in
-        let S = bench-run c es list book out t hops book′ left e listed few size B′ in
+        let S = bench-run c es e listed few (length-replicate 2000 noHop) size B′ in
         record { place = t .bytes; says = said .0; prints = S .0; sum = said .1 ∙ S .1 };
   }
 

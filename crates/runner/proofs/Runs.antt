@@ -4,14 +4,13 @@ use mathlib.Core.Bool.{Bool}
 use mathlib.Core.List.{List, [], _∷_, _++_, append-assoc, map}
 use Prim.Native.Nat.{ℕ, _+_, _%_, _≤_}
 use native.Mathlib.Omega.{arith}
-use lib.ListN.{length, replicate, length-replicate}
+use lib.ListN.{length}
 use Rattle.text.specs.Writing.{Written}
 use Rattle.text.proofs.Written.{written-append}
-use Rattle.layout.specs.Tables.{tabulate}
 use Rattle.model.specs.declared.Hop.{Hop}
-use Rattle.model.specs.Network.{Plan, Network, noHop, hopsOf, logOf, sumOf}
+use Rattle.model.specs.Network.{Plan, Network, hopsOf, logOf, sumOf}
 use Rattle.model.specs.Rules.{quiescent}
-use Rattle.model.specs.Calls.{Call, Answered, Run, ran, run, networkOf, historyOf}
+use Rattle.model.specs.Calls.{Call, Answered, run, networkOf, historyOf}
 use Rattle.model.specs.Demand3.{Planned, takenTotal}
 use Rattle.model.specs.Claims.{callOf}
 use Rattle.model.proofs.Replies.{rest-answers}
@@ -32,34 +31,25 @@ use Rattle.benchfile.specs.File.{ended}
 use Rattle.benchfile.specs.Calls.{numbersOf}
 use Rattle.benchfile.specs.declared.Content.{Content}
 use Rattle.benchfile.proofs.WrittenLines.{ended-append}
-use Rattle.output_lines.specs.Output.{logLine, hopsLine, restLine}
-use Rattle.runner.specs.Printed.{Result, RanFrom, forestRefusal, forestParents, planOf, callFor, refusedEvents, runLines, resultLines, takenBy}
-use Rattle.runner.specs.Steps.{begunWith, HandsBack, logLines, saysRest, Finished, BenchRun, ranOn}
+use Rattle.output_lines.specs.Output.{hopsLine, restLine}
+use Rattle.runner.specs.Printed.{Result, RanFrom, forestRefusal, forestParents, planOf, callFor, refusedEvents, logLines, runLines, resultLines, takenBy}
+use Rattle.runner.specs.Steps.{begunWith, HandsBack, saysRest, Finished, BenchRun, ranOn}
 use Rattle.runner.specs.declared.events.Progress.{Progress}
 use Rattle.runner.specs.declared.results.Totals.{Totals}
 use Rattle.runner.proofs.Plans.{plan-planned, plan-units, plan-groups}
+use Rattle.runner.proofs.RunResults.{result-lines, result-taken}
 use Rattle.runner.proofs.EventRuns.{Whole, EventsLeft, events-run}
 
 -- ---- what a run of the rules prints
-
-module _ (k : ℕ) (P : Plan) where
-  result-lines : (r : Run) → resultLines (RanFrom k P r)
-      ≡ runLines k (historyOf r) (P .units) (λ u. logOf u (networkOf r)) (length (hopsOf (networkOf r))) (quiescent (networkOf r))
-  unfolding resultLines historyOf networkOf
-  result-lines (ran W past) = refl
-
-  result-taken : (r : Run) → takenBy (RanFrom k P r) ≡ takenTotal (historyOf r)
-  unfolding takenBy historyOf
-  result-taken (ran W past) = refl
 
 -- the refused events, and then the rest of the lines
 run-lines-ended : (k : ℕ) (past : List Answered) (units : ℕ) (logs : ℕ → List ℕ) (hops : ℕ) (rest : Bool)
     → ended (runLines k past units logs hops rest)
     ≡ ended (refusedEvents k past) ++ ended (logLines units logs ++ hopsLine hops ∷ restLine rest ∷ [])
-unfolding runLines logLines
+unfolding runLines
 run-lines-ended k past units logs hops rest =
-    ap ended (append-assoc (refusedEvents k past) (tabulate units (λ u. logLine u (logs u))) (hopsLine hops ∷ restLine rest ∷ []))
-    ∙ ended-append (refusedEvents k past) (tabulate units (λ u. logLine u (logs u)) ++ hopsLine hops ∷ restLine rest ∷ [])
+    ap ended (append-assoc (refusedEvents k past) (logLines units logs) (hopsLine hops ∷ restLine rest ∷ []))
+    ∙ ended-append (refusedEvents k past) (logLines units logs ++ hopsLine hops ∷ restLine rest ∷ [])
 
 -- the line of the first event
 first-line : (groups : ℕ) → groups ≤ 24 → plus (groups % 65536) 4 ≡ 4 + groups
@@ -121,11 +111,12 @@ run-shown P planned few es {p} {q} {out = out} {out₁} {left} {t = t} E rests F
     )
 
 -- whatever the 2,000 hops hold
-hops-run : (c : Content) (es : List FileEvent) {list book out : List ℕ} {hops : List Hop} {t : Totals} {hops′ : List Hop} {book′ left : List ℕ}
+pub bench-run : (c : Content) (es : List FileEvent) {list book out : List ℕ} {hops : List Hop} {t : Totals} {hops′ : List Hop} {book′ left : List ℕ}
     → forestRefusal c ≡ [] → list ≡ numbersOf es → length es ≤ 3000 → length hops ≡ 2000 → length book ≡ 6400
-    → BenchRun (c .units) (c .count) (c .groups) (forestParents c) list hops book out t hops′ book′ left → Shown (ranOn c es) 0 out t left
+    → BenchRun (c .units) (c .count) (c .groups) (forestParents c) list hops book out t hops′ book′ left
+    → Written (ended (resultLines (ranOn c es))) 0 out (t .bytes) left × (t .taken ≡ takenBy (ranOn c es))
 unfolding planOf ranOn begunWith takenTotal sumOf
-hops-run c es {book = book} {out} {hops} {t} {left = left} accepted same few size size′ B =
+bench-run c es {book = book} {out} {hops} {t} {left = left} accepted same few size size′ B =
     let P = planOf c in
     let planned = plan-planned c accepted in
     let groups = plan-groups c accepted in
@@ -140,10 +131,3 @@ hops-run c es {book = book} {out} {hops} {t} {left = left} accepted same few siz
     } in
     let E = events-run P planned [] es (B .runs) W same (omega (arith, few)) (omega (arith, line, few, groups)) refl in
     subst (λ (k : ℕ). Shown (RanFrom k P (run P (map callFor es))) 0 out t left) line (run-shown P planned (plan-units c accepted) es E (B .rests) (B .finishes))
-
-pub bench-run : (c : Content) (es : List FileEvent) (list : List ℕ) (book out : List ℕ) (r : Totals) (hops′ : List Hop) (book′ left : List ℕ)
-    → forestRefusal c ≡ [] → list ≡ numbersOf es → length es ≤ 3000 → length book ≡ 6400
-    → BenchRun (c .units) (c .count) (c .groups) (forestParents c) list (replicate 2000 noHop) book out r hops′ book′ left
-    → Written (ended (resultLines (ranOn c es))) 0 out (r .bytes) left × (r .taken ≡ takenBy (ranOn c es))
-bench-run c es list book out r hops′ book′ left accepted same few size B =
-    hops-run c es accepted same few (length-replicate 2000 noHop) size B

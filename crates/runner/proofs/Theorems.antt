@@ -1,6 +1,6 @@
 -- What the promise of `run` says of what is printed: demand 3 of a file that is run, the line of one that is refused, and how many bytes at most.
 -- Assumes nothing.
-use mathlib.Core.Path.{_≡_, refl, sym, ap, _∙_}
+use mathlib.Core.Path.{_≡_, sym, ap, _∙_}
 use mathlib.Core.Logic.{⊎-elim}
 use mathlib.Core.Bool.{Bool, true, false, cond}
 use mathlib.Core.List.{List, [], _∷_, _++_, map}
@@ -10,10 +10,9 @@ use borrow.Author.Tests.{le-ltb}
 use lib.ListN.{length, take, length-take}
 use lib.Seq.{take-append-seam}
 use Rattle.sets.proofs.Bools.{either}
-use Rattle.model.specs.Network.{Plan, hopsOf, logOf}
+use Rattle.model.specs.Network.{hopsOf, logOf}
 use Rattle.model.specs.Rules.{quiescent}
-use Rattle.model.specs.Calls.{Run, ran, run, networkOf, historyOf}
-use Rattle.model.specs.Demand3.{takenTotal}
+use Rattle.model.specs.Calls.{run, networkOf, historyOf}
 use Rattle.model.proofs.Theorems.{demand-3, reading}
 use Rattle.benchfile.specs.File.{File, Good, readFile, ended}
 use Rattle.benchfile.specs.Calls.{WroteBytes, contentOf, writeSays, writeLeaves}
@@ -23,7 +22,7 @@ use Rattle.runner.specs.Printed.{forestRefusal, planOf, callFor, Result,
 use Rattle.runner.specs.Printed.{runAnswer, outputShort, RunPromise}
 use Rattle.runner.specs.Claims.{PrintedRun}
 use Rattle.runner.proofs.Plans.{plan-planned}
-use Rattle.runner.proofs.Lengths.{run-lines}
+use Rattle.runner.proofs.RunResults.{result-lines, result-taken}
 
 -- what `run` answers and leaves where the list is long enough
 module _ (file out : List ℕ) (r : RunAnswer) (left : List ℕ) (p : RunPromise file out r left) where
@@ -48,11 +47,6 @@ module _ (file out : List ℕ) (r : RunAnswer) (left : List ℕ) (p : RunPromise
         p .taken ∙ ap (λ (b : Bool). cond b 0 (takenBy (result file))) long ∙ ap takenBy e,
       )
 
--- the sum of a run
-run-taken : (k : ℕ) (P : Plan) (r : Run) → takenBy (RanFrom k P r) ≡ takenTotal (historyOf r)
-unfolding takenBy historyOf
-run-taken k P (ran W past) = refl
-
 -- demand 3 holds of what is printed for a good file whose forest is not refused
 pub run-ordered : (file out : List ℕ) (r : RunAnswer) (left : List ℕ) → RunPromise file out r left → 98740 ≤ length out
     → (F : File) → readFile 9000 file ≡ Good F → forestRefusal (contentOf F) ≡ []
@@ -73,9 +67,9 @@ run-ordered file out r left p enough F e accepted =
         logs = λ u. logOf u W;
         hops = length (hopsOf W);
         rest = quiescent W;
-        lines = text ∙ ap ended (run-lines k P (run P cs));
+        lines = text ∙ ap ended (result-lines k P (run P cs));
         reading = reading P planned cs;
-        total = sum ∙ run-taken k P (run P cs);
+        total = sum ∙ result-taken k P (run P cs);
         ordered = demand-3 P planned cs;
       },
     )

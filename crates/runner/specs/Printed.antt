@@ -72,10 +72,14 @@ unfoldable pub refusedEvents : ℕ → List Answered → List (List ℕ)
 refusedEvents k [] = []
 refusedEvents k (answered c a ∷ past) = refusedAs k a ++ refusedEvents (suc k) past
 
+-- for each of n units its log
+unfoldable pub logLines : ℕ → (ℕ → List ℕ) → List (List ℕ)
+logLines n logs = tabulate n (λ u. logLine u (logs u))
+
 -- the lines of a run: refused events; then for each unit its log; then the hops made; then whether the bench is at rest
 unfoldable pub runLines : ℕ → List Answered → ℕ → (ℕ → List ℕ) → ℕ → Bool → List (List ℕ)
 runLines k past units logs hops rest =
-    refusedEvents k past ++ tabulate units (λ u. logLine u (logs u)) ++ hopsLine hops ∷ restLine rest ∷ []
+    refusedEvents k past ++ logLines units logs ++ hopsLine hops ∷ restLine rest ∷ []
 
 unfoldable pub resultLines : Result → List (List ℕ)
 resultLines (RefusedAt line number) = refusedLine line number ∷ []

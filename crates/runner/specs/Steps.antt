@@ -5,7 +5,6 @@ use mathlib.Core.Bool.{Bool, true, false, _&&_, not, cond}
 use mathlib.Core.List.{List, [], _∷_, _++_, map}
 use lib.ListN.{length, getD}
 use lib.Dec.{ltb, eqb}
-use Rattle.layout.specs.Tables.{tabulate}
 use Rattle.tables.specs.Values.{plus}
 use Rattle.model.specs.declared.Hop.{Hop}
 use Rattle.model.specs.Rules.{Answer, Refused, Sent, Repeat, Held, Taken}
@@ -24,7 +23,7 @@ use Rattle.benchfile.specs.Calls.{Answer as Reply, TurnedAway, ReadNumbers, Wro
 use Rattle.benchfile.specs.declared.Content.{Content}
 use Rattle.lines.specs.Lines.{Event as FileEvent}
 use Rattle.output_lines.specs.Output.{refusedLine, logLine, hopsLine, restLine}
-use Rattle.runner.specs.Printed.{Result, RanFrom, forestRefusal, planOf, callFor, resultLines, takenBy, runAnswer}
+use Rattle.runner.specs.Printed.{Result, RanFrom, forestRefusal, planOf, callFor, logLines, resultLines, takenBy, runAnswer}
 use Rattle.runner.specs.declared.RunAnswer.{RunAnswer}
 use Rattle.runner.specs.declared.events.Event.{Event}
 use Rattle.runner.specs.declared.events.Progress.{Progress}
@@ -132,10 +131,7 @@ abbrev pub LogPut : Bench → ℕ → List ℕ → List ℕ → ℕ → ℕ → 
 LogPut b unit book out at place left =
     (logs : ℕ → List ℕ) → HandsBack b book logs → Written (logLine unit (logs unit) ++ 10 ∷ []) at out place left
 
--- the lines of the logs of the first n units
-unfoldable pub logLines : ℕ → (ℕ → List ℕ) → List (List ℕ)
-logLines n logs = tabulate n (λ u. logLine u (logs u))
-
+-- the logs of the first units
 abbrev pub LogsPut : Bench → ℕ → List ℕ → List ℕ → ℕ → ℕ → List ℕ → Type 0
 LogsPut b units book out at place left =
     units ≤ 32 → (logs : ℕ → List ℕ) → HandsBack b book logs → Written (ended (logLines units logs)) at out place left

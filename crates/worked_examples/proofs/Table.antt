@@ -26,7 +26,7 @@ use Rattle.lines.specs.Lines.{entry as entry-in, entriesIn, parentOf, parentsIn
 use Rattle.benchfile.specs.File.{next, step, finish, steps, readFile, ended}
 use Rattle.benchfile.specs.Calls.{contentOf}
 use Rattle.output_lines.specs.Output.{refusedKey, logKey, hopsKey, restKey, answerWord, refusedLine, messageTexts, logLine, hopsLine, restLine}
-use Rattle.runner.specs.Printed.{forestRefusal, forestParents, planOf, callFor, onForest, resultOf, result, refusedAs, refusedEvents, runLines}
+use Rattle.runner.specs.Printed.{forestRefusal, forestParents, planOf, callFor, onForest, resultOf, result, refusedAs, refusedEvents, logLines, runLines}
 use Rattle.runner.specs.Printed.{resultLines, printed}
 use Rattle.worked_examples.specs.Table.{Outcome, Refusal, Parents}
 use Rattle.worked_examples.specs.Table.{forestOutcome, routeOutcome, answerIn, runOutcome, drawnPlan, outcome, C, drawnC, of32, sends, arrives}
@@ -46,7 +46,7 @@ unfolding onesIn trailingZeros member single below union intersection difference
     countLine risesFrom groupIn groupFault entry-in entriesIn parentOf parentsIn parentsFault isBuild parentsTable badSend eventFault eventIn
     next step finish steps readFile ended contentOf
     refusedKey logKey hopsKey restKey answerWord refusedLine messageTexts logLine hopsLine restLine
-    forestRefusal forestParents planOf callFor onForest resultOf result refusedAs refusedEvents runLines resultLines printed
+    forestRefusal forestParents planOf callFor onForest resultOf result refusedAs refusedEvents logLines runLines resultLines printed
     forestOutcome routeOutcome answerIn runOutcome drawnPlan outcome C drawnC of32 sends arrives fileP8 printsP8 fileP10 printsP10 table stated computed
 table-holds = refl
 

@@ -7,7 +7,8 @@ use native.Mathlib.Nat.{le-trans}
 use lib.ListN.{length, drop}
 use Rattle.benchfile.specs.File.{ended}
 use Rattle.line_writer.proofs.Texts.{Remains, remains-next, remains-none}
-use Rattle.runner.specs.Steps.{HandsBack, logLines}
+use Rattle.runner.specs.Steps.{HandsBack}
+use Rattle.runner.specs.Printed.{logLines}
 use Rattle.runner.proofs.LogTexts.{logs-next, logs-end}
 use Rattle.runner.proofs.results.put_logs.Statement.{statement}
 use Rattle.runner.proofs.results.put_logs.Tie as tie

@@ -59,19 +59,17 @@ unfoldable pub message : (source group word : ℕ) → Message
 message s g w = record { source = s; group = g; word = w }
 
 abbrev pub two : List Call
-two = sends 0 0 7 ∷ sends 0 0 8 ∷ arrives 1 ∷ arrives 0 ∷ []
+two = sends 0 0 7 ∷ sends 0 0 8 ∷ arrives 1 ∷ arrives 1 ∷ arrives 0 ∷ arrives 0 ∷ []
 
 pub record Benches : Type 0 where
   -- a message is recorded with its word
   pub word : messagesOf (networkOf (run bench-C (sends 3 0 500 ∷ []))) ≡ message 3 0 500 ∷ []
   -- unit 2 carries message 1 and does not log it
   pub carrier-log : log bench-C 2 6400 (networkOf (run bench-C (sends 3 0 500 ∷ arrives 0 ∷ arrives 1 ∷ []))) ≡ Log []
-  -- a hop that was taken is a repeat
-  pub repeats : answers single-unit (sends 0 0 7 ∷ arrives 0 ∷ arrives 0 ∷ []) ≡ Sent 1 ∷ Taken 1 ∷ Repeat ∷ []
   -- sequence numbers count by pair: one source, two receivers
   pub by-pair : map (λ h. h .sequence) (hopsOf (networkOf (run bench-C (sends 3 0 1 ∷ sends 3 2 2 ∷ sends 3 0 3 ∷ [])))) ≡ 1 ∷ 1 ∷ 2 ∷ []
-  -- one source, one group: the second message waits for the first, and the log has the sent order
-  pub order-answers : answers single-unit two ≡ Sent 1 ∷ Sent 2 ∷ Held ∷ Taken 2 ∷ []
+  -- one source, one group: the second message waits for the first, and the log has the sent order; a held and a taken hop are repeats
+  pub order-answers : answers single-unit two ≡ Sent 1 ∷ Sent 2 ∷ Held ∷ Repeat ∷ Taken 2 ∷ Repeat ∷ []
   pub order-log : log single-unit 0 6400 (networkOf (run single-unit two)) ≡ Log (1 ∷ 2 ∷ [])
   -- hops to children in rising unit number
   pub children : hopsOf (networkOf (run three-children (sends 2 0 7 ∷ arrives 0 ∷ [])))
@@ -99,7 +97,6 @@ unfolding onesIn trailingZeros member single union intersection including includ
 benches = record {
   word = refl;
   carrier-log = refl;
-  repeats = refl;
   by-pair = refl;
   order-answers = refl;
   order-log = refl;

@@ -21,7 +21,7 @@ use Rattle.benchfile.specs.Calls.{contentOf}
 use Rattle.benchfile.proofs.RoundTrip.{read-good}
 use Rattle.benchfile.proofs.WrittenLines.{ended-append}
 use Rattle.output_lines.specs.Output.{refusedKey, logKey, hopsKey, restKey, answerWord, refusedLine, messageTexts, logLine, hopsLine, restLine}
-use Rattle.runner.specs.Printed.{forestRefusal, planOf, callFor, onForest, resultOf, result}
+use Rattle.runner.specs.Printed.{forestRefusal, planOf, callFor, ranOn, onForest, resultOf, result}
 use Rattle.runner.specs.Printed.{refusedAs, refusedEvents, logLines, runLines, resultLines, printed}
 use Rattle.runner.proofs.Plans.{plan-planned}
 use Rattle.runner.proofs.RunResults.{result-lines}
@@ -123,7 +123,7 @@ refused-fits line number = omega (arith, refusal-length line number)
 module _ (file : List ℕ) where
   run-fits : (F : File) → readFile 9000 file ≡ Good F → forestRefusal (contentOf F) ≡ []
       → length (ended (resultLines (onForest [] F))) ≤ 98740
-  unfolding onForest planOf contentOf
+  unfolding onForest ranOn planOf contentOf
   run-fits F e accepted =
       let P = planOf (contentOf F) in
       let cs = map callFor (F .events) in

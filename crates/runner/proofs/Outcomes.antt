@@ -24,8 +24,9 @@ use Rattle.output_lines.specs.Output.{refusedLine}
 use Rattle.runner.specs.declared.RunAnswer.{RunAnswer}
 use Rattle.runner.specs.declared.RunReply.the-variants.{ListTooShort}
 use Rattle.runner.specs.declared.results.Totals.{Totals}
-use Rattle.runner.specs.Printed.{Result, forestRefusal, forestParents, RefusedAt, onForest, resultOf, result, resultLines, printed, takenBy, runAnswer, outputShort, RunPromise}
-use Rattle.runner.specs.Steps.{numberOf, lineOf, countOf, BenchRun, PrintedAs, ranOn, ContentRun}
+use Rattle.runner.specs.Printed.{Result, RefusedAt, forestRefusal, forestParents, ranOn, onForest, resultOf, result, resultLines, printed, takenBy}
+use Rattle.runner.specs.Printed.{runAnswer, outputShort, RunPromise}
+use Rattle.runner.specs.Steps.{numberOf, lineOf, countOf, BenchRun, PrintedAs, ContentRun}
 use Rattle.runner.proofs.Lines.{refusal-line}
 use Rattle.runner.proofs.Lengths.{printed-fits}
 use Rattle.runner.proofs.Runs.{bench-run}
@@ -177,7 +178,7 @@ module _ (file list events : List ℕ) (a : ReadAnswer) (size : length list ≡ 
           coe 0 1 (i. ContentRun (said i) (line i) (numbers i) out r left) C
 
       good-read : ContentRun (contentOf F) (3 + length (F .groups)) (numbersOf (F .events)) out r left → RunPromise file out r left
-      unfolding resultOf onForest result resultLines printed takenBy ended ranOn contentOf
+      unfolding resultOf onForest result resultLines printed takenBy ended
       good-read C = ⊎-elim
           (λ (e : forestRefusal (contentOf F) ≡ []).
           let q : result file ≡ ranOn (contentOf F) (F .events) = ap resultOf good ∙ ap (λ (l : List ℕ). onForest l F) e in

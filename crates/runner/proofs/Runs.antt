@@ -32,8 +32,8 @@ use Rattle.benchfile.specs.Calls.{numbersOf}
 use Rattle.benchfile.specs.declared.Content.{Content}
 use Rattle.benchfile.proofs.WrittenLines.{ended-append}
 use Rattle.output_lines.specs.Output.{hopsLine, restLine}
-use Rattle.runner.specs.Printed.{Result, RanFrom, forestRefusal, forestParents, planOf, callFor, refusedEvents, logLines, runLines, resultLines, takenBy}
-use Rattle.runner.specs.Steps.{begunWith, HandsBack, saysRest, Finished, BenchRun, ranOn}
+use Rattle.runner.specs.Printed.{Result, RanFrom, forestRefusal, forestParents, planOf, callFor, ranOn, refusedEvents, logLines, runLines, resultLines, takenBy}
+use Rattle.runner.specs.Steps.{begunWith, HandsBack, saysRest, Finished, BenchRun}
 use Rattle.runner.specs.declared.events.Progress.{Progress}
 use Rattle.runner.specs.declared.results.Totals.{Totals}
 use Rattle.runner.proofs.Plans.{plan-planned, plan-units, plan-groups}

@@ -18,7 +18,7 @@ use Rattle.benchfile.specs.File.{File, Good, readFile, ended}
 use Rattle.benchfile.specs.Calls.{WroteBytes, contentOf, writeSays, writeLeaves}
 use Rattle.output_lines.specs.Output.{refusedLine}
 use Rattle.runner.specs.declared.RunAnswer.{RunAnswer}
-use Rattle.runner.specs.Printed.{forestRefusal, planOf, callFor, Result, RefusedAt, RanFrom, onForest, resultOf, result, resultLines, printed, takenBy}
+use Rattle.runner.specs.Printed.{forestRefusal, planOf, callFor, Result, RefusedAt, RanFrom, ranOn, onForest, resultOf, result, resultLines, printed, takenBy}
 use Rattle.runner.specs.Printed.{runAnswer, outputShort, RunPromise}
 use Rattle.runner.specs.Claims.{PrintedRun}
 use Rattle.runner.proofs.Plans.{plan-planned}
@@ -51,7 +51,7 @@ module _ (file out : List ℕ) (r : RunAnswer) (left : List ℕ) (p : RunPromise
 pub run-ordered : (file out : List ℕ) (r : RunAnswer) (left : List ℕ) → RunPromise file out r left → 98740 ≤ length out
     → (F : File) → readFile 9000 file ≡ Good F → forestRefusal (contentOf F) ≡ []
     → (n : ℕ) × (runAnswer (r .reply) ≡ WroteBytes n) × PrintedRun F (take n left) (r .taken)
-unfolding result resultOf onForest planOf contentOf
+unfolding result resultOf onForest ranOn planOf contentOf
 run-ordered file out r left p enough F e accepted =
     let P = planOf (contentOf F) in
     let cs = map callFor (F .events) in

@@ -45,9 +45,13 @@ pub data Result : Type 0 where
   -- the events were run on a plan; the first of them stands in that line
   RanFrom : (line : ℕ) → Plan → Run → Result
 
+-- events are run on the plan of a content; the first stands in the line after `parents=`
+unfoldable pub ranOn : Content → List Event → Result
+ranOn c es = let P = planOf c in RanFrom (4 + c .count) P (run P (map callFor es))
+
 -- the file was read: its forest is refused at the line of `parents=`, or its events are run
 unfoldable pub onForest : List ℕ → File → Result
-onForest [] F = let P = planOf (contentOf F) in RanFrom (4 + length (F .groups)) P (run P (map callFor (F .events)))
+onForest [] F = ranOn (contentOf F) (F .events)
 onForest (number ∷ values) F = RefusedAt (3 + length (F .groups)) number
 
 -- a refusal of a file is its number and its line

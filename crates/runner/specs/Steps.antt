@@ -2,13 +2,13 @@
 use Prim.Native.Nat.{ℕ, _+_, _*_, _-_, _%_, _≤_}
 use mathlib.Core.Path.{_≡_}
 use mathlib.Core.Bool.{Bool, true, false, _&&_, not, cond}
-use mathlib.Core.List.{List, [], _∷_, _++_, map}
+use mathlib.Core.List.{List, [], _∷_, _++_}
 use lib.ListN.{length, getD}
 use lib.Dec.{ltb, eqb}
 use Rattle.tables.specs.Values.{plus}
 use Rattle.model.specs.declared.Hop.{Hop}
 use Rattle.model.specs.Rules.{Answer, Refused, Sent, Repeat, Held, Taken}
-use Rattle.model.specs.Calls.{RestAnswer, RestRefused, Rest, run}
+use Rattle.model.specs.Calls.{RestAnswer, RestRefused, Rest}
 use Rattle.model.specs.Demand3.{carried}
 use Rattle.relay.specs.declared.Bench.{Bench}
 use Rattle.relay.specs.declared.Fresh.{Fresh}
@@ -23,7 +23,7 @@ use Rattle.benchfile.specs.Calls.{Answer as Reply, TurnedAway, ReadNumbers, Wro
 use Rattle.benchfile.specs.declared.Content.{Content}
 use Rattle.lines.specs.Lines.{Event as FileEvent}
 use Rattle.output_lines.specs.Output.{refusedLine, logLine, hopsLine, restLine}
-use Rattle.runner.specs.Printed.{Result, RanFrom, forestRefusal, planOf, callFor, logLines, resultLines, takenBy, runAnswer}
+use Rattle.runner.specs.Printed.{forestRefusal, ranOn, logLines, resultLines, takenBy, runAnswer}
 use Rattle.runner.specs.declared.RunAnswer.{RunAnswer}
 use Rattle.runner.specs.declared.events.Event.{Event}
 use Rattle.runner.specs.declared.events.Progress.{Progress}
@@ -168,10 +168,6 @@ pub record PrintedAs (text : List ℕ) (taken : ℕ) (out : List ℕ) (r : RunAn
   pub says : runAnswer (r .reply) ≡ WroteBytes place
   pub prints : Written text 0 out place left
   pub sum : r .taken ≡ taken
-
--- what a file comes to whose forest is not refused
-unfoldable pub ranOn : Content → List FileEvent → Result
-ranOn c es = let P = planOf c in RanFrom (4 + c .count) P (run P (map callFor es))
 
 -- a file that was read was run: its content, the line of `parents=`, and the numbers of its events
 pub record ContentRun (c : Content) (line : ℕ) (list out : List ℕ) (r : RunAnswer) (left : List ℕ) : Type 0 where

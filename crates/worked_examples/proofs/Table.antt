@@ -1,8 +1,9 @@
--- The rules give every outcome of the table P1 to P10, by computation; and its forests meet the premise of demand 3. Assumes nothing.
-use mathlib.Core.Path.{_≡_, refl, ap}
+-- The rules give every outcome of the table P1 to P10, by computation. So its forests meet the premise of demand 3, and `run` prints P8 and P10.
+-- Assumes nothing.
+use mathlib.Core.Path.{_≡_, refl, ap, _∙_}
 use mathlib.Core.List.{List, [], _∷_, map}
 use Prim.Native.Nat.{ℕ}
-use lib.ListN.{getD}
+use lib.ListN.{getD, take}
 use lib.Count.{onesIn, trailingZeros}
 use Rattle.sets.specs.Sets.{member, single, below, union, intersection, difference, including, includingIf, size, lowest, collect}
 use Rattle.layout.specs.Tables.{tabulate}
@@ -24,11 +25,13 @@ use Rattle.lines.specs.Lines.{refuse as refuse-line, unitsKey, groupsKey, group
 use Rattle.lines.specs.Lines.{countIn, countFault, unitsFault, groupsFault, countLine, risesFrom, groupIn, groupFault}
 use Rattle.lines.specs.Lines.{entry as entry-in, entriesIn, parentOf, parentsIn, parentsFault, isBuild, parentsTable, badSend, eventFault, eventIn}
 use Rattle.benchfile.specs.File.{next, step, finish, steps, readFile, ended}
-use Rattle.benchfile.specs.Calls.{contentOf}
+use Rattle.benchfile.specs.Calls.{WroteBytes, contentOf}
 use Rattle.output_lines.specs.Output.{refusedKey, logKey, hopsKey, restKey, answerWord, refusedLine, messageTexts, logLine, hopsLine, restLine}
-use Rattle.runner.specs.Printed.{forestRefusal, forestParents, planOf, callFor, onForest, resultOf, result, refusedAs, refusedEvents, logLines, runLines}
-use Rattle.runner.specs.Printed.{resultLines, printed}
-use Rattle.worked_examples.specs.Table.{Outcome, Refusal, Parents}
+use Rattle.runner.specs.Printed.{forestRefusal, forestParents, planOf, callFor, ranOn, onForest, resultOf, result, refusedAs, refusedEvents, logLines, runLines}
+use Rattle.runner.specs.Printed.{resultLines, printed, runAnswer, RunPromise}
+use Rattle.runner.specs.declared.RunAnswer.{RunAnswer}
+use Rattle.runner.proofs.Theorems.{run-bytes}
+use Rattle.worked_examples.specs.Table.{Outcome, Refusal, Parents, Prints}
 use Rattle.worked_examples.specs.Table.{forestOutcome, routeOutcome, answerIn, runOutcome, drawnPlan, outcome, C, drawnC, of32, sends, arrives}
 use Rattle.worked_examples.specs.Table.{fileP8, printsP8, fileP10, printsP10, table, stated, computed}
 
@@ -46,7 +49,7 @@ unfolding onesIn trailingZeros member single below union intersection difference
     countLine risesFrom groupIn groupFault entry-in entriesIn parentOf parentsIn parentsFault isBuild parentsTable badSend eventFault eventIn
     next step finish steps readFile ended contentOf
     refusedKey logKey hopsKey restKey answerWord refusedLine messageTexts logLine hopsLine restLine
-    forestRefusal forestParents planOf callFor onForest resultOf result refusedAs refusedEvents logLines runLines resultLines printed
+    forestRefusal forestParents planOf callFor ranOn onForest resultOf result refusedAs refusedEvents logLines runLines resultLines printed
     forestOutcome routeOutcome answerIn runOutcome drawnPlan outcome C drawnC of32 sends arrives fileP8 printsP8 fileP10 printsP10 table stated computed
 table-holds = refl
 
@@ -69,3 +72,21 @@ C-planned = checked drawnC (unrefused _ _ _ (entry-holds 4)) refl
 pub P1-planned : Planned (record { units = 4; count = 2; groups = 11 ∷ 14 ∷ []; parents = buildParents 4 2 (11 ∷ 14 ∷ []) })
 unfolding table computed stated outcome
 P1-planned = built (unrefused _ _ _ (entry-holds 0)) refl
+
+-- ---- what `run` prints
+
+-- the bytes that `run` leaves for a file, as many as it answers
+abbrev pub RunPrints : (file text : List ℕ) → Type 0
+RunPrints file text = (out : List ℕ) (r : RunAnswer) (left : List ℕ) → RunPromise file out r left
+    → (n : ℕ) → runAnswer (r .reply) ≡ WroteBytes n → take n left ≡ text
+
+run-prints : (file text : List ℕ) → Prints (printed file) ≡ Prints text → RunPrints file text
+run-prints file text e out r left p n q = let same : printed file ≡ text = cc in run-bytes file out r left p n q .0 ∙ same
+
+pub p8-printed : RunPrints fileP8 printsP8
+unfolding table computed stated outcome
+p8-printed = run-prints fileP8 printsP8 (entry-holds 9)
+
+pub p10-printed : RunPrints fileP10 printsP10
+unfolding table computed stated outcome
+p10-printed = run-prints fileP10 printsP10 (entry-holds 11)

@@ -1,6 +1,6 @@
 -- What the promise of `run` says of what is printed: demand 3 of a file that is run, the line of one that is refused, and how many bytes at most.
 -- Assumes nothing.
-use mathlib.Core.Path.{_≡_, sym, ap, _∙_}
+use mathlib.Core.Path.{_≡_, refl, sym, ap, _∙_}
 use mathlib.Core.Logic.{⊎-elim}
 use mathlib.Core.Bool.{Bool, true, false, cond}
 use mathlib.Core.List.{List, [], _∷_, _++_, map}
@@ -68,6 +68,7 @@ run-ordered file out r left p enough F e accepted =
         hops = length (hopsOf W);
         rest = quiescent W;
         lines = text ∙ ap ended (result-lines k P (run P cs));
+        answers = refl;
         reading = reading P planned cs;
         total = sum ∙ result-taken k P (run P cs);
         ordered = demand-3 P planned cs;

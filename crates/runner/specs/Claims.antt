@@ -4,7 +4,7 @@ use mathlib.Core.Path.{_≡_}
 use mathlib.Core.Bool.{Bool}
 use mathlib.Core.List.{List, map}
 use lib.ListN.{length}
-use Rattle.model.specs.Calls.{Answered}
+use Rattle.model.specs.Calls.{Answered, run, historyOf}
 use Rattle.model.specs.Demand3.{Demand3, takenTotal}
 use Rattle.model.specs.Claims.{Reading}
 use Rattle.benchfile.specs.File.{File, ended}
@@ -19,6 +19,8 @@ pub record PrintedRun (F : File) (bytes : List ℕ) (sum : ℕ) : Type 0 where
   pub hops : ℕ
   pub rest : Bool
   pub lines : bytes ≡ ended (runLines (4 + length (F .groups)) past (F .units) logs hops rest)
+  -- the answers are those of the rules' run of the file's events
+  pub answers : past ≡ historyOf (run (planOf (contentOf F)) (map callFor (F .events)))
   -- the calls are the file's events, each with its answer, and the messages sent are numbered 1, 2, .. in their order
   pub reading : Reading (map callFor (F .events)) past
   pub total : sum ≡ takenTotal past

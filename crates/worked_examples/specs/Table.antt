@@ -121,8 +121,9 @@ printsP10 =
     104 ∷ 111 ∷ 112 ∷ 115 ∷ 61 ∷ 48 ∷ 10 ∷
     114 ∷ 101 ∷ 115 ∷ 116 ∷ 61 ∷ 121 ∷ 101 ∷ 115 ∷ 10 ∷ []
 
+-- an input and its outcome, with the number behind document 01's P
 pub data Entry : Type 0 where
-  entry : (name : ℕ) (input : Input) (outcome : Outcome) → Entry
+  entry : (number : ℕ) (input : Input) (outcome : Outcome) → Entry
 
 unfoldable pub table : List Entry
 table =
@@ -145,7 +146,7 @@ table =
 
 -- an entry's outcome, and what the rules give for its input
 unfoldable pub stated : Entry → Outcome
-stated (entry name input o) = o
+stated (entry number input o) = o
 
 unfoldable pub computed : Entry → Outcome
-computed (entry name input o) = outcome input
+computed (entry number input o) = outcome input

@@ -1,0 +1,4 @@
+pub mod Parts
+pub mod Known
+pub mod Arrivals
+pub mod Sends

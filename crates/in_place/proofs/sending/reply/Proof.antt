@@ -1,0 +1,39 @@
+-- The tests come in the rule's order, and in each branch they compute the rule.
+use borrow.Author.Needs.{needs}
+use borrow.Author.Tests.{ne-eqb}
+use Rattle.model.specs.Rules.{refuse}
+use Rattle.relay.specs.Machine.{sentReply}
+use Rattle.in_place.specs.InPlace.{messagesIn, benchIn}
+use Rattle.in_place.proofs.sending.reply.Statement.{statement}
+use Rattle.in_place.proofs.sending.reply.Tie as tie
+
+returns : tie.Need-returns
+unfolding sentReply refuse benchIn messagesIn
+returns c = rw (c .if1 .taken)
+
+returns-2 : tie.Need-returns-2
+unfolding sentReply refuse benchIn messagesIn
+returns-2 c = rw (c .if2 .taken)
+
+returns-3 : tie.Need-returns-3
+unfolding sentReply refuse benchIn messagesIn
+returns-3 c = rw (c .if3 .taken)
+
+returns-4 : tie.Need-returns-4
+unfolding sentReply refuse benchIn messagesIn
+returns-4 c = rw (c .if4 .taken)
+
+returns-5 : tie.Need-returns-5
+unfolding sentReply refuse benchIn messagesIn
+returns-5 c = rw (c .if5 .taken)
+
+plus-requires : tie.Need-plus-requires
+plus-requires c κs = search needs
+
+returns-6 : tie.Need-returns-6
+unfolding sentReply refuse benchIn messagesIn
+returns-6 c = rw (c .plus .ensures, ne-eqb _ 1 (c .before .before .before .before .before .if1 .left), ne-eqb _ 12 (c .before .before .before .before .if2 .left), ne-eqb _ 13 (c .before .before .before .if3 .left), ne-eqb _ 14 (c .before .before .if4 .left), ne-eqb _ 15 (c .before .if5 .left))
+
+pub reply-spec : {M : Type 1} → statement M
+reply-spec =
+    tie.close (tie.spec returns returns-2 returns-3 returns-4 returns-5 plus-requires returns-6)

@@ -1,0 +1,204 @@
+-- The bench that lists say, and what each function of the crate computes. Definitions only.
+use Prim.Native.Nat.{ℕ, _+_, _-_, _%_}
+use mathlib.Core.Bool.{cond}
+use mathlib.Core.List.{List, [], map}
+use lib.Dec.{ltb, eqb}
+use lib.ListN.{getD, set, take, drop, replicate}
+use Rattle.sets.specs.Sets.{member, intersection, size}
+use Rattle.model.specs.declared.Hop.{Hop}
+use Rattle.routing.specs.declared.Topology.{Topology}
+use Rattle.tables.specs.declared.messages.Messages.{Messages}
+use Rattle.tables.specs.Values.{plus, byte, added, logged}
+use Rattle.hops.specs.declared.forwarding.Forwarding.{Forwarding}
+use Rattle.relay.specs.declared.Bench.{Bench}
+use Rattle.relay.specs.declared.Arrived.{Arrived as ArrivedBench}
+use Rattle.relay.specs.declared.Sent.{Sent as SentBench}
+use Rattle.relay.specs.declared.arrival.Arrival.{Arrival}
+use Rattle.relay.specs.Machine.{takeArrival, nextArrival, Settling, settled, finishedReply, arriveEnd}
+use Rattle.in_place.specs.declared.Totals.{Totals}
+use Rattle.in_place.specs.declared.Sent.{Sent}
+use Rattle.in_place.specs.declared.Arrived.{Arrived}
+use Rattle.in_place.specs.declared.arriving.Passage.{Passage}
+use Rattle.in_place.specs.declared.arriving.Delivery.{Delivery}
+
+-- ---- the bench
+
+-- a primary is a byte
+unfoldable pub primariesIn : List ℕ → List ℕ
+primariesIn ts = map (λ x. x % 256) (take 24 (drop 80 ts))
+
+unfoldable pub topologyIn : List ℕ → Topology
+topologyIn ts = record {
+  units = getD ts 104 0;
+  count = getD ts 105 0;
+  groups = take 24 ts;
+  children = take 32 (drop 48 ts);
+  primaries = primariesIn ts;
+  routes = take 24 (drop 24 ts);
+}
+
+unfoldable pub messagesIn : Totals → List ℕ → Messages
+messagesIn t ms = record { sources = take 200 ms; groups = take 200 (drop 200 ms); words = take 200 (drop 400 ms); sent = t .sent; routed = t .routed }
+
+unfoldable pub benchIn : Totals → List ℕ → List ℕ → List (List ℕ) → Bench
+benchIn t ts ms rows = record {
+  topology = topologyIn ts;
+  messages = messagesIn t ms;
+  made = t .made;
+  taken = t .taken;
+  counts = record { grid = take 32 rows };
+  takes = record { grid = take 32 (drop 32 rows) };
+  lengths = getD rows 64 [];
+}
+
+unfoldable pub totalsOf : Bench → Totals
+totalsOf b = record { made = b .made; taken = b .taken; sent = b .messages .sent; routed = b .messages .routed }
+
+-- ---- rows
+
+unfoldable pub madeRow : List (List ℕ) → ℕ → List ℕ
+madeRow rows u = getD (take 32 rows) u (replicate 32 0)
+
+unfoldable pub takenRow : List (List ℕ) → ℕ → List ℕ
+takenRow rows u = getD (take 32 (drop 32 rows)) u (replicate 32 0)
+
+unfoldable pub withMade : List (List ℕ) → ℕ → List ℕ → List (List ℕ)
+withMade rows u row = cond (ltb u 32) (set rows u row) rows
+
+unfoldable pub withTaken : List (List ℕ) → ℕ → List ℕ → List (List ℕ)
+withTaken rows u row = cond (ltb u 32) (set rows (32 + u) row) rows
+
+-- ---- an arrival
+
+-- what a passage keeps of an arrival, and the arrival that it says with the lists
+unfoldable pub passageOf : Arrival → Passage
+passageOf a = record {
+  sender = a .sender;
+  receiver = a .receiver;
+  refusal = a .refusal;
+  repeated = a .repeated;
+  hold = a .hold;
+  at = a .at;
+  end = a .end;
+  left = a .left;
+  taken = a .taken;
+  length = a .length;
+  made = a .made;
+  counts = a .counts;
+}
+
+unfoldable pub arrivalIn : List ℕ → List ℕ → Passage → Arrival
+arrivalIn ts ms p = record {
+  topology = topologyIn ts;
+  groups = take 200 (drop 200 ms);
+  sender = p .sender;
+  receiver = p .receiver;
+  refusal = p .refusal;
+  repeated = p .repeated;
+  hold = p .hold;
+  at = p .at;
+  end = p .end;
+  left = p .left;
+  taken = p .taken;
+  length = p .length;
+  made = p .made;
+  counts = p .counts;
+}
+
+-- the same with no lists
+unfoldable pub alone : Passage → Arrival
+alone p = arrivalIn [] [] p
+
+-- what message m means to a receiver
+unfoldable pub deliveryIn : List ℕ → List ℕ → ℕ → ℕ → Delivery
+deliveryIn ts ms r m =
+    let g = getD (take 200 (drop 200 ms)) (m - 1) 0 in
+    record {
+      message = m;
+      member = member (getD (take 24 ts) g 0) r;
+      children = intersection (getD (take 32 (drop 48 ts)) r 0) (getD (take 24 (drop 24 ts)) g 0);
+    }
+
+unfoldable pub logDelivery : Passage → Delivery → List ℕ → List ℕ
+logDelivery p d book = cond (d .member) (logged (p .receiver) (p .length) (d .message) book) book
+
+unfoldable pub outgoingOf : Passage → Delivery → Forwarding
+outgoingOf p d = record { sender = p .receiver; message = d .message; children = d .children; made = p .made; counts = p .counts }
+
+unfoldable pub afterLength : Passage → Delivery → ℕ
+afterLength p d = cond (d .member) (plus (p .length) 1) (p .length)
+
+unfoldable pub afterDelivery : Passage → Delivery → Forwarding → Passage
+afterDelivery p d f = record {
+  sender = p .sender;
+  receiver = p .receiver;
+  refusal = p .refusal;
+  repeated = p .repeated;
+  hold = p .hold;
+  at = p .at;
+  end = p .end;
+  left = p .left - 1;
+  taken = plus (p .taken) 1;
+  length = afterLength p d;
+  made = f .made;
+  counts = f .counts;
+}
+
+unfoldable pub takeIn : List ℕ → List ℕ → Passage → List Hop → Passage
+takeIn ts ms p hs = passageOf (takeArrival (arrivalIn ts ms p) hs)
+
+unfoldable pub nextIn : Passage → List Hop → Passage
+nextIn p hs = passageOf (nextArrival (alone p) hs)
+
+unfoldable pub settledIn : List ℕ → List ℕ → Passage → List Hop → List ℕ → Settling
+settledIn ts ms p hs book = settled (p .end - p .at) (arrivalIn ts ms p) hs book
+
+-- the rows once the passage is over
+unfoldable pub updatedRows : Passage → List (List ℕ) → List (List ℕ)
+updatedRows p rows =
+    let made = withMade rows (p .receiver) (p .counts) in
+    let taken = withTaken made (p .sender) (added (takenRow rows (p .sender)) (p .receiver) (p .taken)) in
+    set taken 64 (set (getD rows 64 (replicate 32 0)) (p .receiver) (p .length))
+
+unfoldable pub finishedRows : Passage → List (List ℕ) → List (List ℕ)
+finishedRows p rows = cond (eqb (p .taken) 0) rows (updatedRows p rows)
+
+unfoldable pub finishedTotals : Totals → Passage → Totals
+finishedTotals t p = cond (eqb (p .taken) 0) t (record { made = p .made; taken = plus (t .taken) (p .taken); sent = t .sent; routed = t .routed })
+
+unfoldable pub finishedIn : Totals → Passage → Arrived
+finishedIn t p = record { totals = finishedTotals t p; reply = finishedReply (alone p) }
+
+-- what `arrive` answers, from what the relay's call answers
+unfoldable pub arrivedIn : ArrivedBench → Arrived
+arrivedIn r = record { totals = totalsOf (r .bench); reply = r .reply }
+
+unfoldable pub arriveRows : Bench → ℕ → List (List ℕ) → List Hop → List ℕ → List (List ℕ)
+arriveRows b j rows hs book = finishedRows (passageOf (arriveEnd b j hs book .arrival)) rows
+
+-- ---- a send
+
+unfoldable pub sentIn : SentBench → Sent
+sentIn r = record { totals = totalsOf (r .bench); reply = r .reply }
+
+unfoldable pub recordedTotals : Totals → ℕ → List ℕ → Totals
+recordedTotals t g ts = record {
+  made = plus (t .made) 1;
+  taken = t .taken;
+  sent = plus (t .sent) 1;
+  routed = plus (t .routed) (size (getD (take 24 (drop 24 ts)) g 0));
+}
+
+-- message number t .sent + 1 is recorded
+unfoldable pub recordedMessages : Totals → (source group word : ℕ) → List ℕ → List ℕ
+recordedMessages t s g w ms =
+    cond (ltb (t .sent) 200) (set (set (set ms (t .sent) (byte s)) (200 + t .sent) (byte g)) (400 + t .sent) w) ms
+
+unfoldable pub recordedRows : List ℕ → (source group : ℕ) → List (List ℕ) → List (List ℕ)
+recordedRows ts s g rows = withMade rows s (added (madeRow rows s) (getD (primariesIn ts) g 0) 1)
+
+unfoldable pub sendMessages : ℕ → Totals → (source group word : ℕ) → List ℕ → List ℕ
+sendMessages refusal t s g w ms = cond (eqb refusal 0) (recordedMessages t s g w ms) ms
+
+unfoldable pub sendRows : ℕ → List ℕ → (source group : ℕ) → List (List ℕ) → List (List ℕ)
+sendRows refusal ts s g rows = cond (eqb refusal 0) (recordedRows ts s g rows) rows

@@ -1,0 +1,408 @@
+// One arrival: the copy is held, and as long as the next copy of its pair is held, that is taken.
+use crate::Arrived;
+use crate::Totals;
+use crate::lists;
+use relay::ArriveReply;
+use relay::Bench;
+ghost use mathlib.Core.Path.{_≡_};
+ghost use mathlib.Core.Bool.{cond};
+ghost use mathlib.Core.List.{[]};
+ghost use Prim.Native.Nat.{_-_};
+ghost use lib.ListN.{set};
+ghost use Rattle.relay.specs.Machine.{arriveRefusal, isOpen, isNext, received, isGoing as goes, searchFrom, searchEnd, movedTo, takeHops, takeBook, finishedReply};
+ghost use Rattle.relay.specs.Machine.{arriveResult, arriveHops, arriveBook};
+ghost use Rattle.in_place.specs.InPlace.{benchIn, passageOf, arrivalIn, alone, deliveryIn, logDelivery, outgoingOf, afterDelivery, takeIn, nextIn};
+ghost use Rattle.in_place.specs.InPlace.{settledIn, afterLength, updatedRows, finishedRows, finishedIn, arrivedIn, arriveRows};
+
+// What an arrival keeps: the fields of the relay's `Arrival`, less what stands in the lists.
+pub struct Passage {
+    pub sender: u8,
+    pub receiver: u8,
+    pub refusal: u8,
+    pub repeated: bool,
+    pub hold: usize,
+    pub at: usize,
+    pub end: usize,
+    pub left: u16,
+    pub taken: u16,
+    pub length: u16,
+    pub made: u16,
+    pub counts: [u16; 32],
+}
+
+// What a message means to its receiver: whether it is logged, and to which children it goes on.
+pub struct Delivery {
+    pub message: u16,
+    pub member: bool,
+    pub children: u32,
+}
+
+// a where the test says so, else b.
+pub fn choose(test: bool, a: usize, b: usize) -> usize
+    ensures { λ r. ⌜ r ≡ cond test a b ⌝ }
+{
+    if test {
+        return a;
+    }
+    b
+}
+
+// The place of a hop.
+fn place_of(hop: u16) -> usize
+    ensures { λ r. ⌜ r ≡ hop ⌝ }
+{
+    hop as usize
+}
+
+// Why an arrival is turned away: document 01's number, or 0.
+fn refusal(made: u16, hop: u16, hops: usize, book: usize) -> u8
+    ensures { λ r. ⌜ r ≡ arriveRefusal made hop hops book ⌝ }
+{
+    if hops < Bench::HOPS {
+        return 1;
+    }
+    if book < Bench::BOOK {
+        return 1;
+    }
+    if made <= hop {
+        return 16;
+    }
+    0
+}
+
+// Whether the hop is out and its arrival is not turned away.
+fn is_open(refusal: u8, hop: model::Hop) -> bool
+    ensures { λ r. ⌜ r ≡ isOpen refusal hop ⌝ }
+{
+    if refusal == 0 {
+        return hop.state == 0;
+    }
+    false
+}
+
+// Whether the hop is the next of its pair.
+fn is_next(taken: u16, hop: model::Hop) -> bool
+    ensures { λ r. ⌜ r ≡ isNext taken hop ⌝ }
+{
+    hop.sequence == tables::plus(taken, 1)
+}
+
+// a less b, 0 where b is more.
+fn less(a: u16, b: u16) -> u16
+    ensures { λ r. ⌜ r ≡ a - b ⌝ }
+{
+    if b <= a {
+        return a - b;
+    }
+    0
+}
+
+// The arrival of a hop, whose record is h, at a bench that is lent so many hops and log numbers.
+fn begun(t: Totals, hop: u16, h: model::Hop, rows: &[[u16; 32]], hops: usize, book: usize) -> Passage
+    ensures { λ r. ⌜ r ≡ passageOf (received (benchIn t [] [] (now (rows .entry))) hop h hops book) ⌝ }
+{
+    let number = refusal(t.made, hop, hops, book);
+    let open = is_open(number, h);
+    let s = h.sender as usize;
+    let r = h.receiver as usize;
+    let made_by = lists::made_row(rows, s);
+    let taken_by = lists::taken_row(rows, s);
+    let made = tables::counts::at(made_by, r);
+    let taken = tables::counts::at(taken_by, r);
+    let next = is_next(taken, h);
+    let place = hop as usize;
+    let end = t.made as usize;
+    let first = choose(next, place, end);
+    let lengths = lists::row_at(rows, 64);
+    let counts = lists::made_row(rows, r);
+    Passage {
+        sender: h.sender,
+        receiver: h.receiver,
+        refusal: number,
+        repeated: h.state != 0,
+        hold: choose(open, place, hops),
+        at: choose(open, first, end),
+        end,
+        left: less(made, taken),
+        taken: 0,
+        length: tables::counts::at(lengths, r),
+        made: t.made,
+        counts,
+    }
+}
+
+// The place of the hop to hold.
+fn hold_place(p: Passage) -> usize
+    ensures { λ r. ⌜ r ≡ p .hold ⌝ }
+{
+    p.hold
+}
+
+// The place of the hop to take.
+fn place(p: Passage) -> usize
+    ensures { λ r. ⌜ r ≡ p .at ⌝ }
+{
+    p.at
+}
+
+fn sender(p: Passage) -> u8
+    ensures { λ r. ⌜ r ≡ p .sender ⌝ }
+{
+    p.sender
+}
+
+fn receiver(p: Passage) -> u8
+    ensures { λ r. ⌜ r ≡ p .receiver ⌝ }
+{
+    p.receiver
+}
+
+// Whether a hop is to be taken.
+fn is_going(p: Passage) -> bool
+    ensures { λ r. ⌜ r ≡ goes (alone p) ⌝ }
+{
+    p.at < p.end
+}
+
+// The message of a hop.
+fn message_of(hop: model::Hop) -> u16
+    ensures { λ r. ⌜ r ≡ hop .message ⌝ }
+{
+    hop.message
+}
+
+// What message m means to a receiver.
+fn delivery_to(receiver: u8, m: u16, tables: &[u32], messages: &[u16]) -> Delivery
+    ensures { λ r. ⌜ r ≡ deliveryIn (now (tables .entry)) (now (messages .entry)) receiver m ⌝ }
+{
+    let g = lists::group_of(messages, m) as usize;
+    let r = receiver as usize;
+    let members = lists::group(tables, g);
+    let below = lists::children(tables, r);
+    let way = lists::route(tables, g);
+    Delivery {
+        message: m,
+        member: sets::member(members, r),
+        children: sets::intersection(below, way),
+    }
+}
+
+// A receiver that is a member logs the message.
+fn log_copy(p: Passage, d: Delivery, book: &mut [u16])
+    ensures { λ _. ⌜ now (book .exit) ≡ logDelivery p d (now (book .entry)) ⌝ }
+{
+    if d.member {
+        tables::book::log(book, p.receiver as usize, p.length as usize, d.message);
+    }
+}
+
+// The hops to make: one to each child of the receiver that is on the route of the message's group.
+fn outgoing(p: Passage, d: Delivery) -> hops::Forwarding
+    ensures { λ r. ⌜ r ≡ outgoingOf p d ⌝ }
+{
+    let counts = p.counts;
+    hops::Forwarding {
+        sender: p.receiver,
+        message: d.message,
+        children: d.children,
+        made: p.made,
+        counts,
+    }
+}
+
+// The length of the receiver's log after the copy.
+fn longer(p: Passage, d: Delivery) -> u16
+    ensures { λ r. ⌜ r ≡ afterLength p d ⌝ }
+{
+    if d.member {
+        return tables::plus(p.length, 1);
+    }
+    p.length
+}
+
+// The arrival once the copy was taken and the hops f were made.
+fn after_copy(p: Passage, d: Delivery, f: hops::Forwarding) -> Passage
+    ensures { λ r. ⌜ r ≡ afterDelivery p d f ⌝ }
+{
+    let mut next = p;
+    let counts = f.counts;
+    next.left = less(p.left, 1);
+    next.taken = tables::plus(p.taken, 1);
+    next.length = longer(p, d);
+    next.made = f.made;
+    next.counts = counts;
+    next
+}
+
+// One copy is taken: its hop, the receiver's log, and the hops to the children.
+fn take(p: Passage, tables: &[u32], messages: &[u16], hops: &mut [model::Hop], book: &mut [u16]) -> Passage
+    ensures { λ r. ⌜ (r ≡ takeIn (now (tables .entry)) (now (messages .entry)) p (now (hops .entry)))
+        × (now (hops .exit) ≡ takeHops (arrivalIn (now (tables .entry)) (now (messages .entry)) p) (now (hops .entry)))
+        × (now (book .exit) ≡ takeBook (arrivalIn (now (tables .entry)) (now (messages .entry)) p) (now (hops .entry)) (now (book .entry))) ⌝ }
+{
+    let at = place(p);
+    let hop = hops::read(hops, at);
+    let m = message_of(hop);
+    hops::set_state(hops, at, 2);
+    let to = receiver(p);
+    let d = delivery_to(to, m, tables, messages);
+    log_copy(p, d, book);
+    let start = outgoing(p, d);
+    let made = hops::forward(hops, start);
+    after_copy(p, d, made)
+}
+
+// Where the search for the pair's next hop begins.
+fn search_from(p: Passage) -> usize
+    ensures { λ r. ⌜ r ≡ searchFrom (alone p) ⌝ }
+{
+    if p.at < p.end {
+        return p.at + 1;
+    }
+    p.end
+}
+
+// Where it ends: at once where the pair has no hop left.
+fn search_end(p: Passage) -> usize
+    ensures { λ r. ⌜ r ≡ searchEnd (alone p) ⌝ }
+{
+    if p.left == 0 {
+        return 0;
+    }
+    p.end
+}
+
+// The arrival with the place of the pair's next hop, if that is held.
+fn moved(p: Passage, place: usize, hop: model::Hop) -> Passage
+    ensures { λ r. ⌜ r ≡ passageOf (movedTo (alone p) place hop) ⌝ }
+{
+    let mut next = p;
+    next.at = p.end;
+    if p.left == 0 {
+        return next;
+    }
+    if hop.state == 1 {
+        next.at = place;
+    }
+    next
+}
+
+// The arrival goes on to the pair's next hop.
+fn next(p: Passage, hops: &[model::Hop]) -> Passage
+    ensures { λ r. ⌜ r ≡ nextIn p (now (hops .entry)) ⌝ }
+{
+    let from = search_from(p);
+    let end = search_end(p);
+    let s = sender(p);
+    let r = receiver(p);
+    let place = hops::next_of_pair(hops, s, r, from, end);
+    let hop = hops::read(hops, place);
+    moved(p, place, hop)
+}
+
+// As long as the next hop of the pair is held, it is taken.
+fn settle(start: Passage, tables: &[u32], messages: &[u16], hops: &mut [model::Hop], book: &mut [u16]) -> Passage
+    ensures { λ r. ⌜ (r ≡ passageOf (settledIn (now (tables .entry)) (now (messages .entry)) start (now (hops .entry)) (now (book .entry)) .arrival))
+        × (now (hops .exit) ≡ settledIn (now (tables .entry)) (now (messages .entry)) start (now (hops .entry)) (now (book .entry)) .hops)
+        × (now (book .exit) ≡ settledIn (now (tables .entry)) (now (messages .entry)) start (now (hops .entry)) (now (book .entry)) .book) ⌝ }
+{
+    let mut p = start;
+    while is_going(p) {
+        let q = take(p, tables, messages, hops, book);
+        p = next(q, hops);
+    }
+    p
+}
+
+// The rows once the arrival is over: the receiver's hops made, the pair's hops taken, the length of the receiver's log.
+fn update(p: Passage, rows: &mut [[u16; 32]])
+    ensures { λ _. ⌜ now (rows .exit) ≡ updatedRows p (now (rows .entry)) ⌝ }
+{
+    let s = p.sender as usize;
+    let r = p.receiver as usize;
+    let counts = p.counts;
+    let before = lists::taken_row(rows, s);
+    let row = tables::counts::added(before, r, p.taken);
+    let lengths = lists::row_at(rows, 64);
+    let longer = with_length(lengths, r, p.length);
+    lists::set_made(rows, r, counts);
+    lists::set_taken(rows, s, row);
+    lists::set_row(rows, 64, longer);
+}
+
+// The lengths of the logs with another for a unit.
+fn with_length(lengths: [u16; 32], unit: usize, length: u16) -> [u16; 32]
+    ensures { λ r. ⌜ r ≡ set lengths unit length ⌝ }
+{
+    let mut next = lengths;
+    if unit < 32 {
+        next[unit] = length;
+    }
+    next
+}
+
+// What an arrival answers.
+fn reply(p: Passage) -> ArriveReply
+    ensures { λ r. ⌜ r ≡ finishedReply (alone p) ⌝ }
+{
+    if p.refusal == 1 {
+        return ArriveReply::ListTooShort;
+    }
+    if p.refusal == 16 {
+        return ArriveReply::NotMade;
+    }
+    if p.repeated {
+        return ArriveReply::Repeat;
+    }
+    if p.taken == 0 {
+        return ArriveReply::Held;
+    }
+    ArriveReply::Taken(p.taken)
+}
+
+// What `arrive` answers and leaves once the arrival is settled.
+fn finished(t: Totals, p: Passage, rows: &mut [[u16; 32]]) -> Arrived
+    ensures { λ r. ⌜ (r ≡ finishedIn t p) × (now (rows .exit) ≡ finishedRows p (now (rows .entry))) ⌝ }
+{
+    let answer = reply(p);
+    if p.taken == 0 {
+        return Arrived {
+            totals: t,
+            reply: answer,
+        };
+    }
+    update(p, rows);
+    let mut next = t;
+    next.made = p.made;
+    next.taken = tables::plus(t.taken, p.taken);
+    Arrived {
+        totals: next,
+        reply: answer,
+    }
+}
+
+// A copy of a hop reaches its receiver.
+pub fn arrive(
+    t: Totals,
+    hop: u16,
+    tables: &[u32],
+    messages: &[u16],
+    rows: &mut [[u16; 32]],
+    hops: &mut [model::Hop],
+    book: &mut [u16],
+) -> Arrived
+    ensures { λ r. ⌜ (r ≡ arrivedIn (arriveResult (benchIn t (now (tables .entry)) (now (messages .entry)) (now (rows .entry))) hop (now (hops .entry)) (now (book .entry))))
+        × (now (rows .exit) ≡ arriveRows (benchIn t (now (tables .entry)) (now (messages .entry)) (now (rows .entry))) hop (now (rows .entry)) (now (hops .entry)) (now (book .entry)))
+        × (now (hops .exit) ≡ arriveHops (benchIn t (now (tables .entry)) (now (messages .entry)) (now (rows .entry))) hop (now (hops .entry)) (now (book .entry)))
+        × (now (book .exit) ≡ arriveBook (benchIn t (now (tables .entry)) (now (messages .entry)) (now (rows .entry))) hop (now (hops .entry)) (now (book .entry))) ⌝ }
+{
+    let hops_lent = hops.len();
+    let book_lent = book.len();
+    let place = place_of(hop);
+    let record = hops::read(hops, place);
+    let start = begun(t, hop, record, rows, hops_lent, book_lent);
+    let hold = hold_place(start);
+    hops::set_state(hops, hold, 1);
+    let end = settle(start, tables, messages, hops, book);
+    finished(t, end, rows)
+}

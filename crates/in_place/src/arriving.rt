@@ -5,7 +5,6 @@ use crate::lists;
 use relay::ArriveReply;
 use relay::Bench;
 ghost use mathlib.Core.Path.{_≡_};
-ghost use mathlib.Core.Bool.{cond};
 ghost use mathlib.Core.List.{[]};
 ghost use Prim.Native.Nat.{_-_};
 ghost use lib.ListN.{set};
@@ -35,16 +34,6 @@ pub struct Delivery {
     pub message: u16,
     pub member: bool,
     pub children: u32,
-}
-
-// a where the test says so, else b.
-pub fn choose(test: bool, a: usize, b: usize) -> usize
-    ensures { λ r. ⌜ r ≡ cond test a b ⌝ }
-{
-    if test {
-        return a;
-    }
-    b
 }
 
 // The place of a hop.
@@ -98,7 +87,14 @@ fn less(a: u16, b: u16) -> u16
 }
 
 // The arrival of a hop, whose record is h, at a bench that is lent so many hops and log numbers.
-fn begun(t: Totals, hop: u16, h: model::Hop, rows: &[[u16; 32]], hops: usize, book: usize) -> Passage
+fn begun(
+    t: Totals,
+    hop: u16,
+    h: model::Hop,
+    rows: &[[u16; 32]],
+    hops: usize,
+    book: usize,
+) -> Passage
     ensures { λ r. ⌜ r ≡ passageOf (received (benchIn t [] [] (now (rows .entry))) hop h hops book) ⌝ }
 {
     let number = refusal(t.made, hop, hops, book);
@@ -112,7 +108,7 @@ fn begun(t: Totals, hop: u16, h: model::Hop, rows: &[[u16; 32]], hops: usize, bo
     let next = is_next(taken, h);
     let place = hop as usize;
     let end = t.made as usize;
-    let first = choose(next, place, end);
+    let first = lists::choose(next, place, end);
     let lengths = lists::row_at(rows, 64);
     let counts = lists::made_row(rows, r);
     Passage {
@@ -120,8 +116,8 @@ fn begun(t: Totals, hop: u16, h: model::Hop, rows: &[[u16; 32]], hops: usize, bo
         receiver: h.receiver,
         refusal: number,
         repeated: h.state != 0,
-        hold: choose(open, place, hops),
-        at: choose(open, first, end),
+        hold: lists::choose(open, place, hops),
+        at: lists::choose(open, first, end),
         end,
         left: less(made, taken),
         taken: 0,
@@ -235,7 +231,13 @@ fn after_copy(p: Passage, d: Delivery, f: hops::Forwarding) -> Passage
 }
 
 // One copy is taken: its hop, the receiver's log, and the hops to the children.
-fn take(p: Passage, tables: &[u32], messages: &[u16], hops: &mut [model::Hop], book: &mut [u16]) -> Passage
+fn take(
+    p: Passage,
+    tables: &[u32],
+    messages: &[u16],
+    hops: &mut [model::Hop],
+    book: &mut [u16],
+) -> Passage
     ensures { λ r. ⌜ (r ≡ takeIn (now (tables .entry)) (now (messages .entry)) p (now (hops .entry)))
         × (now (hops .exit) ≡ takeHops (arrivalIn (now (tables .entry)) (now (messages .entry)) p) (now (hops .entry)))
         × (now (book .exit) ≡ takeBook (arrivalIn (now (tables .entry)) (now (messages .entry)) p) (now (hops .entry)) (now (book .entry))) ⌝ }
@@ -301,7 +303,13 @@ fn next(p: Passage, hops: &[model::Hop]) -> Passage
 }
 
 // As long as the next hop of the pair is held, it is taken.
-fn settle(start: Passage, tables: &[u32], messages: &[u16], hops: &mut [model::Hop], book: &mut [u16]) -> Passage
+fn settle(
+    start: Passage,
+    tables: &[u32],
+    messages: &[u16],
+    hops: &mut [model::Hop],
+    book: &mut [u16],
+) -> Passage
     ensures { λ r. ⌜ (r ≡ passageOf (settledIn (now (tables .entry)) (now (messages .entry)) start (now (hops .entry)) (now (book .entry)) .arrival))
         × (now (hops .exit) ≡ settledIn (now (tables .entry)) (now (messages .entry)) start (now (hops .entry)) (now (book .entry)) .hops)
         × (now (book .exit) ≡ settledIn (now (tables .entry)) (now (messages .entry)) start (now (hops .entry)) (now (book .entry)) .book) ⌝ }

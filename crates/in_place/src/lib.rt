@@ -3,14 +3,20 @@
 //     tables     the members of each group, the route of each group, the children of each unit, the primary of each group (24, 24, 32 and 24 numbers), the units, the groups
 //     messages   the source, the group and the word of each message: three times 200 numbers
 //     rows       for each sender the hops made to each receiver, and the hops taken (32 rows each); the lengths of the logs (one row)
-mod arriving;
+pub mod arriving;
 mod lists;
-mod sending;
+pub mod sending;
+pub mod whole;
 
 pub use arriving::arrive;
-pub use sending::send;
 use relay::ArriveReply;
 use relay::SendReply;
+pub use sending::send;
+pub use whole::log;
+pub use whole::no_totals;
+pub use whole::rest;
+pub use whole::tables_of;
+pub use whole::unit_count;
 
 // Hops made and taken, messages sent, and the sum of their route sizes.
 pub struct Totals {

@@ -1,9 +1,20 @@
 // Reading and storing in the lists of a bench. A place past a list reads as zeros, and nothing is stored there.
 ghost use mathlib.Core.Path.{_≡_};
+ghost use mathlib.Core.Bool.{cond};
 ghost use Prim.Native.Nat.{_-_};
 ghost use lib.ListN.{getD, set, take, drop, replicate};
 ghost use Rattle.sets.specs.Sets.{size as sizeOf};
 ghost use Rattle.in_place.specs.InPlace.{primariesIn, madeRow, takenRow, withMade, withTaken};
+
+// a where the test says so, else b.
+pub fn choose(test: bool, a: usize, b: usize) -> usize
+    ensures { λ r. ⌜ r ≡ cond test a b ⌝ }
+{
+    if test {
+        return a;
+    }
+    b
+}
 
 // Row i.
 pub fn row_at(rows: &[[u16; 32]], i: usize) -> [u16; 32]

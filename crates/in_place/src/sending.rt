@@ -1,7 +1,6 @@
 // One send: the message is recorded, and one hop made, from the source to the group's primary.
 use crate::Sent;
 use crate::Totals;
-use crate::arriving;
 use crate::lists;
 use relay::Bench;
 use relay::SendReply;
@@ -56,7 +55,7 @@ fn first_hop(t: Totals, source: u16, group: u16, tables: &[u32], rows: &[[u16; 3
 fn place(t: Totals, refusal: u8, hops: usize) -> usize
     ensures { λ r. ⌜ r ≡ cond (eqb refusal 0) (t .made) hops ⌝ }
 {
-    arriving::choose(refusal == 0, t.made as usize, hops)
+    lists::choose(refusal == 0, t.made as usize, hops)
 }
 
 // The message is recorded.

@@ -44,10 +44,9 @@ use Rattle.benchfile.specs.File.{ended}
 use Rattle.benchfile.specs.Calls.{numbersOf}
 use Rattle.benchfile.proofs.WrittenLines.{ended-append}
 use Rattle.runner.specs.Printed.{callFor, refusedAs, refusedEvents}
-use Rattle.runner.specs.Steps.{refusalOf, isGoing, eventAt, isSend, afterSend, afterArrive, EventRun, sent, arrived, refusalLines, advanced, Noted}
+use Rattle.runner.specs.Steps.{Stage, refusalOf, isGoing, eventAt, isSend, afterSend, afterArrive, EventRun, sent, arrived, refusalLines, advanced, Noted}
 use Rattle.runner.specs.Steps.{EventsRun, over, next}
 use Rattle.runner.specs.declared.events.Event.{Event}
-use Rattle.runner.specs.declared.events.Progress.{Progress}
 
 -- ---- the numbers of an event in the list
 
@@ -126,7 +125,7 @@ module _ {A : Type 0} (n : ℕ) (l : List A) (size : length l ≡ n) where
 -- ---- the records of a run
 
 -- the call c was made: it stands at the end of the chain, with its answer
-record Ran (P : Plan) (past : List Answered) (c : Call) (p q : Progress) (hops : List Hop) (book : List ℕ) : Type 0 where
+record Ran (P : Plan) (past : List Answered) (c : Call) (p q : Stage) (hops : List Hop) (book : List ℕ) : Type 0 where
   answer : Answer
   whole : Whole P (past ++ answered c answer ∷ []) (q .bench) hops book
   lines : (k : ℕ) → refusalLines k (q .refusal) ≡ refusedAs k answer
@@ -136,15 +135,15 @@ record Ran (P : Plan) (past : List Answered) (c : Call) (p q : Progress) (hops :
   line : q .line ≡ p .line
 
 -- on to the next event
-record WentOn (q r : Progress) : Type 0 where
+record WentOn (q r : Stage) : Type 0 where
   bench : r .bench ≡ q .bench
   count : r .count ≡ q .count + 1
   line : r .line ≡ suc (q .line)
   taken : r .taken ≡ q .taken
 
 -- what a run of these events leaves: the calls go on from those before
-pub record EventsLeft (P : Plan) (past : List Answered) (es : List FileEvent) (p : Progress) (out : List ℕ)
-    (q : Progress) (hops : List Hop) (book left : List ℕ) : Type 0 where
+pub record EventsLeft (P : Plan) (past : List Answered) (es : List FileEvent) (p : Stage) (out : List ℕ)
+    (q : Stage) (hops : List Hop) (book left : List ℕ) : Type 0 where
   pub new : List Answered
   pub whole : Whole P (past ++ new) (q .bench) hops book
   pub calls : map callOf new ≡ map callFor es
@@ -199,7 +198,7 @@ module _ (P : Plan) (planned : Planned P) where
       }
 
   -- one event
-  module _ {past : List Answered} {p : Progress} {hops left : List Hop} {book : List ℕ} (W : Whole P past (p .bench) hops book)
+  module _ {past : List Answered} {p : Stage} {hops left : List Hop} {book : List ℕ} (W : Whole P past (p .bench) hops book)
       (sum : p .taken ≡ takenTotal past) where
     ran-send : {r : Sent} (s g w : ℕ) → SendPromise (p .bench) s g w hops r left → Ran P past (Send s g w 2000) p (afterSend p r) left book
     unfolding afterSend takenTotal carriedBy
@@ -230,7 +229,7 @@ module _ (P : Plan) (planned : Planned P) where
           line = refl;
         }
 
-  ran-event : {past : List Answered} {p q : Progress} {x : Event} {hops hops₁ : List Hop} {book book₁ : List ℕ} (e : FileEvent) → x ≡ numbered e
+  ran-event : {past : List Answered} {p q : Stage} {x : Event} {hops hops₁ : List Hop} {book book₁ : List ℕ} (e : FileEvent) → x ≡ numbered e
       → EventRun p x hops book q hops₁ book₁ → Whole P past (p .bench) hops book → p .taken ≡ takenTotal past
       → Ran P past (callFor e) p q hops₁ book₁
   unfolding numbered isSend callFor
@@ -246,25 +245,25 @@ module _ (P : Plan) (planned : Planned P) where
 
 -- ---- from one event to the next
 
-went-on : {q r : Progress} {out left : List ℕ} → Noted q out r left → q .count < 65535 → q .line < 65535 → WentOn q r
+went-on : {q r : Stage} {out left : List ℕ} → Noted q out r left → q .count < 65535 → q .line < 65535 → WentOn q r
 unfolding advanced
 went-on {q} N few few′ = let e = N .goes-on in record {
-  bench = ap (λ (x : Progress). x .bench) e;
-  count = ap (λ (x : Progress). x .count) e ∙ plus-small (q .count) 1 (omega (arith, few));
-  line = ap (λ (x : Progress). x .line) e ∙ plus-small (q .line) 1 (omega (arith, few′)) ∙ add-one (q .line);
-  taken = ap (λ (x : Progress). x .taken) e;
+  bench = ap (λ (x : Stage). x .bench) e;
+  count = ap (λ (x : Stage). x .count) e ∙ plus-small (q .count) 1 (omega (arith, few));
+  line = ap (λ (x : Stage). x .line) e ∙ plus-small (q .line) 1 (omega (arith, few′)) ∙ add-one (q .line);
+  taken = ap (λ (x : Stage). x .taken) e;
 }
 
-still-going : (p : Progress) (list : List ℕ) → p .count < 3000 → 3 * p .count < length list → isGoing p list ≡ true
+still-going : (p : Stage) (list : List ℕ) → p .count < 3000 → 3 * p .count < length list → isGoing (p .count) list ≡ true
 unfolding isGoing
 still-going p list few inside = and-both (ltb (p .count) 3000) _ (lt-ltb (p .count) 3000 few) (lt-ltb (3 * p .count) (length list) inside)
 
-going-inside : (p : Progress) (list : List ℕ) → isGoing p list ≡ true → 3 * p .count < length list
+going-inside : (p : Stage) (list : List ℕ) → isGoing (p .count) list ≡ true → 3 * p .count < length list
 unfolding isGoing
 going-inside p list t = ltb-true (3 * p .count) (length list) (and-right (ltb (p .count) 3000) _ t)
 
 -- one event, and then the others
-joined-events : {P : Plan} {past : List Answered} {e : FileEvent} {es : List FileEvent} {p q r s : Progress} {hops₁ hops₂ : List Hop}
+joined-events : {P : Plan} {past : List Answered} {e : FileEvent} {es : List FileEvent} {p q r s : Stage} {hops₁ hops₂ : List Hop}
     {book₁ book₂ out out₁ out₂ : List ℕ} (one : Ran P past (callFor e) p q hops₁ book₁) → Noted q out r out₁ → WentOn q r
     → EventsLeft P (past ++ answered (callFor e) (one .answer) ∷ []) es r out₁ s hops₂ book₂ out₂ → EventsLeft P past (e ∷ es) p out s hops₂ book₂ out₂
 unfolding refusedEvents callOf
@@ -286,7 +285,7 @@ joined-events {P} {past} {e} {p = p} {q} {r} {s} {hops₂ = hops₂} {book₂ = 
 -- ---- all events
 
 module _ (P : Plan) (planned : Planned P) where
-  pub events-run : (past : List Answered) (es : List FileEvent) {list : List ℕ} {p q : Progress} {hops hops′ : List Hop} {book book′ out out′ : List ℕ}
+  pub events-run : (past : List Answered) (es : List FileEvent) {list : List ℕ} {p q : Stage} {hops hops′ : List Hop} {book book′ out out′ : List ℕ}
       → EventsRun list p hops book out q hops′ book′ out′ → Whole P past (p .bench) hops book → drop (3 * p .count) list ≡ numbersOf es
       → p .count + length es ≤ 3000 → p .line + length es ≤ 65535 → p .taken ≡ takenTotal past
       → EventsLeft P past es p out q hops′ book′ out′

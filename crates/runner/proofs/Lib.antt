@@ -8,3 +8,4 @@ pub mod Runs
 pub mod Outcomes
 pub mod LogTexts
 pub mod Known
+pub mod Stages

@@ -55,14 +55,16 @@ module _ {c : Content} {line n : ℕ} {list out left : List ℕ} {r : RunAnswer}
     ran = λ e es _ few. absurd (some (is ∙ ap numberIn (same ∙ e)));
   }
 
-  pub content-ran : {book book′ : List ℕ} {hops : List Hop} {t : Totals} (ps : List ℕ) → n ≡ 0 → ps ≡ forestParents c → length book ≡ 6400
-      → BenchRun (c .units) (c .count) (c .groups) ps list (replicate 2000 noHop) book out t hops book′ left
+  pub content-ran : {book book′ messages′ : List ℕ} {rows′ : List (List ℕ)} {hops : List Hop} {t : Totals} (ps : List ℕ) → n ≡ 0 → ps ≡ forestParents c
+      → length (c .groups) ≡ 24 → length book ≡ 6400
+      → BenchRun (c .units) (c .count) (c .groups) ps list (replicate 600 0) (replicate 65 (replicate 32 0)) (replicate 2000 noHop) book out t messages′ rows′ hops book′ left
       → (runAnswer (r .reply) ≡ WroteBytes (t .bytes)) × (r .taken ≡ t .taken) → ContentRun c line list out r left
-  content-ran {book} {book′} {hops} {t} ps none parents size B said = record {
+  content-ran {book} {book′} {messages′} {rows′} {hops} {t} ps none parents places size B said = record {
     refused = λ number values e. absurd (suc-ne-zero (length values) (ap length (sym e ∙ sym same ∙ no-number v (sym is ∙ none))));
     ran = λ e es listed few.
-        let B′ = subst (λ (qs : List ℕ). BenchRun (c .units) (c .count) (c .groups) qs list (replicate 2000 noHop) book out t hops book′ left) parents B in
-        let S = bench-run c es e listed few (length-replicate 2000 noHop) size B′ in
+        let B′ = subst (λ (qs : List ℕ). BenchRun (c .units) (c .count) (c .groups) qs list (replicate 600 0) (replicate 65 (replicate 32 0)) (replicate 2000 noHop) book out t
+        messages′ rows′ hops book′ left) parents B in
+        let S = bench-run c es e places listed few (length-replicate 2000 noHop) size B′ in
         record { place = t .bytes; says = said .0; prints = S .0; sum = said .1 ∙ S .1 };
   }
 

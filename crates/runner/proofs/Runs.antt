@@ -4,7 +4,7 @@ use mathlib.Core.Bool.{Bool}
 use mathlib.Core.List.{List, [], _∷_, _++_, append-assoc, map}
 use Prim.Native.Nat.{ℕ, _+_, _%_, _≤_}
 use native.Mathlib.Omega.{arith}
-use lib.ListN.{length}
+use lib.ListN.{length, replicate}
 use Rattle.text.specs.Writing.{Written}
 use Rattle.text.proofs.Written.{written-append}
 use Rattle.model.specs.declared.Hop.{Hop}
@@ -33,8 +33,10 @@ use Rattle.benchfile.specs.declared.Content.{Content}
 use Rattle.benchfile.proofs.WrittenLines.{ended-append}
 use Rattle.output_lines.specs.Output.{hopsLine, restLine}
 use Rattle.runner.specs.Printed.{Result, RanFrom, forestRefusal, forestParents, planOf, callFor, ranOn, refusedEvents, logLines, runLines, resultLines, takenBy}
-use Rattle.runner.specs.Steps.{begunWith, HandsBack, saysRest, Finished, BenchRun}
-use Rattle.runner.specs.declared.events.Progress.{Progress}
+use Rattle.relay.specs.Machine.{restReply}
+use Rattle.in_place.specs.InPlace.{benchIn, tablesOf}
+use Rattle.runner.specs.Steps.{Stage, stageOf, begunWith, EventsRun, HandsBack, saysRest, Finished, BenchRun}
+use Rattle.runner.proofs.Stages.{begun-stage, rested-stage, finished-stage}
 use Rattle.runner.specs.declared.results.Totals.{Totals}
 use Rattle.runner.proofs.Plans.{plan-planned, plan-units, plan-groups}
 use Rattle.runner.proofs.RunResults.{result-lines, result-taken}
@@ -75,7 +77,7 @@ module _ (P : Plan) (planned : Planned P) {past : List Answered} {b : Bench} {ho
 abbrev stateLines : ℕ → Network → List (List ℕ)
 stateLines units W = logLines units (λ u. logOf u W) ++ hopsLine (length (hopsOf W)) ∷ restLine (quiescent W) ∷ []
 
-module _ (P : Plan) (planned : Planned P) (few : P .units ≤ 32) {p : Progress} {hops : List Hop} {book out left : List ℕ} {r : RestReply} {t : Totals} where
+module _ (P : Plan) (planned : Planned P) (few : P .units ≤ 32) {p : Stage} {hops : List Hop} {book out left : List ℕ} {r : RestReply} {t : Totals} where
   end-lines : {past : List Answered} → Called P past (p .bench) hops book → (cs : List Call) → map callOf past ≡ cs → RestPromise (p .bench) hops r
       → Finished p r book out t left → Written (ended (stateLines (P .units) (after P cs))) (p .at) out (t .bytes) left
   unfolding benchOf topology
@@ -95,7 +97,7 @@ abbrev Shown : Result → ℕ → List ℕ → Totals → List ℕ → Type 0
 Shown result at out t left = Written (ended (resultLines result)) at out (t .bytes) left × (t .taken ≡ takenBy result)
 
 -- the events of a run, and then its end
-run-shown : (P : Plan) → Planned P → P .units ≤ 32 → (es : List FileEvent) {p q : Progress} {hops : List Hop} {book out out₁ left : List ℕ}
+run-shown : (P : Plan) → Planned P → P .units ≤ 32 → (es : List FileEvent) {p q : Stage} {hops : List Hop} {book out out₁ left : List ℕ}
     {r : RestReply} {t : Totals} → EventsLeft P [] es p out q hops book out₁ → RestPromise (q .bench) hops r → Finished q r book out₁ t left
     → Shown (RanFrom (p .line) P (run P (map callFor es))) (p .at) out t left
 unfolding after
@@ -111,15 +113,16 @@ run-shown P planned few es {p} {q} {out = out} {out₁} {left} {t = t} E rests F
     )
 
 -- whatever the 2,000 hops hold
-pub bench-run : (c : Content) (es : List FileEvent) {list book out : List ℕ} {hops : List Hop} {t : Totals} {hops′ : List Hop} {book′ left : List ℕ}
-    → forestRefusal c ≡ [] → list ≡ numbersOf es → length es ≤ 3000 → length hops ≡ 2000 → length book ≡ 6400
-    → BenchRun (c .units) (c .count) (c .groups) (forestParents c) list hops book out t hops′ book′ left
+pub bench-run : (c : Content) (es : List FileEvent) {list book out : List ℕ} {hops : List Hop} {t : Totals} {messages′ : List ℕ} {rows′ : List (List ℕ)} {hops′ : List Hop} {book′ left : List ℕ}
+    → forestRefusal c ≡ [] → length (c .groups) ≡ 24 → list ≡ numbersOf es → length es ≤ 3000 → length hops ≡ 2000 → length book ≡ 6400
+    → BenchRun (c .units) (c .count) (c .groups) (forestParents c) list (replicate 600 0) (replicate 65 (replicate 32 0)) hops book out t messages′ rows′ hops′ book′ left
     → Written (ended (resultLines (ranOn c es))) 0 out (t .bytes) left × (t .taken ≡ takenBy (ranOn c es))
-unfolding planOf ranOn begunWith takenTotal sumOf
-bench-run c es {book = book} {out} {hops} {t} {left = left} accepted same few size size′ B =
+unfolding planOf ranOn begunWith stageOf takenTotal sumOf
+bench-run c es {list} {book = book} {out} {hops} {t} {messages′} {rows′} {hops′} {book′} {left} accepted places same few size size′ B =
     let P = planOf c in
     let planned = plan-planned c accepted in
     let groups = plan-groups c accepted in
+    let units = plan-units c accepted in
     let line = first-line (c .count) groups in
     let whole : 2000 ≤ length hops = omega (arith, size) in
     let whole′ : 6400 ≤ length book = omega (arith, size′) in
@@ -129,5 +132,11 @@ bench-run c es {book = book} {out} {hops} {t} {left = left} accepted same few si
       hops-whole = N .hops-length ∙ size;
       book-whole = N .book-length ∙ size′;
     } in
-    let E = events-run P planned [] es (B .runs) W same (omega (arith, few)) (omega (arith, line, few, groups)) refl in
-    subst (λ (k : ℕ). Shown (RanFrom k P (run P (map callFor es))) 0 out t left) line (run-shown P planned (plan-units c accepted) es E (B .rests) (B .finishes))
+    let ts : List ℕ = tablesOf (B .fresh .bench .topology) in let t′ = B .end .totals in let end : Stage = stageOf (B .end) ts messages′ rows′ in
+    let begins = begun-stage (c .units) (c .count) (c .groups) (forestParents c) (B .fresh) (B .begins) (omega (arith, units)) (omega (arith, groups)) places in
+    let runs = subst (λ (s : Stage). EventsRun list s (B .hops-fresh) (B .book-fresh) out end hops′ book′ (B .out-events)) begins (B .runs) in
+    let E = events-run P planned [] es runs W same (omega (arith, few)) (omega (arith, line, few, groups)) refl in
+    let lent : length hops ≡ length hops′ = size ∙ sym (E .whole .hops-whole) in
+    let rests = rested-stage t′ ts messages′ rows′ hops′ (B .rest) (B .rests ∙ ap (restReply (benchIn t′ [] [] [])) lent) in
+    subst (λ (k : ℕ). Shown (RanFrom k P (run P (map callFor es))) 0 out t left) line
+    (run-shown P planned units es E rests (finished-stage (B .end) (B .rest) ts messages′ rows′ (B .finishes)))

@@ -17,6 +17,10 @@ use Rattle.relay.specs.declared.Arrived.{Arrived}
 use Rattle.relay.specs.declared.replies.RestReply.{RestReply}
 use Rattle.relay.specs.Replies.{sendAnswer, arriveAnswer, restAnswer}
 use Rattle.relay.specs.Promises.{FreshPromise, SendPromise, ArrivePromise, RestPromise, LogPromise}
+use Rattle.relay.specs.Machine.{logPart, restReply}
+use Rattle.in_place.specs.declared.Sent.{Sent as SentIn}
+use Rattle.in_place.specs.declared.Arrived.{Arrived as ArrivedIn}
+use Rattle.in_place.specs.InPlace.{benchIn, noTotals, tablesOf}
 use Rattle.text.specs.Writing.{Written}
 use Rattle.benchfile.specs.File.{ended}
 use Rattle.benchfile.specs.Calls.{Answer as Reply, TurnedAway, ReadNumbers, WroteBytes, numbersOf}
@@ -58,21 +62,44 @@ refusalOf Repeat = 0
 refusalOf Held = 0
 refusalOf (Taken n) = 0
 
+-- how far a run has come: a progress, with the bench by value that the lent lists say
+pub record Stage : Type 0 where
+  pub bench : Bench
+  pub at : ℕ
+  pub count : ℕ
+  pub line : ℕ
+  pub taken : ℕ
+  pub refusal : ℕ
+
+unfoldable pub stageOf : Progress → (tables messages : List ℕ) → (rows : List (List ℕ)) → Stage
+stageOf p ts ms rows = record {
+  bench = benchIn (p .totals) ts ms rows;
+  at = p .at;
+  count = p .count;
+  line = p .line;
+  taken = p .taken;
+  refusal = p .refusal;
+}
+
 -- the run begins, before the first event
-unfoldable pub begunWith : Fresh → ℕ → Progress
+unfoldable pub begunWith : Fresh → ℕ → Stage
 begunWith f groups = record { bench = f .bench; at = 0; count = 0; line = plus (groups % 65536) 4; taken = 0; refusal = 0 }
 
-unfoldable pub isGoing : Progress → List ℕ → Bool
-isGoing p list = ltb (p .count) 3000 && ltb (3 * p .count) (length list)
+unfoldable pub begunIn : ℕ → Progress
+begunIn groups = record { totals = noTotals; at = 0; count = 0; line = plus (groups % 65536) 4; taken = 0; refusal = 0 }
+
+-- n events were run
+unfoldable pub isGoing : ℕ → List ℕ → Bool
+isGoing n list = ltb n 3000 && ltb (3 * n) (length list)
 
 -- the next event
-unfoldable pub eventAt : Progress → List ℕ → Event
-eventAt p list = record { first = getD list (3 * p .count) 0; second = getD list (3 * p .count + 1) 0; third = getD list (3 * p .count + 2) 0 }
+unfoldable pub eventAt : ℕ → List ℕ → Event
+eventAt n list = record { first = getD list (3 * n) 0; second = getD list (3 * n + 1) 0; third = getD list (3 * n + 2) 0 }
 
 unfoldable pub isSend : Event → Bool
 isSend e = not (eqb (e .first) 0)
 
-unfoldable pub afterSend : Progress → SentBench → Progress
+unfoldable pub afterSend : Stage → SentBench → Stage
 afterSend p r = record {
   bench = r .bench;
   at = p .at;
@@ -82,7 +109,7 @@ afterSend p r = record {
   refusal = refusalOf (sendAnswer (r .reply));
 }
 
-unfoldable pub afterArrive : Progress → Arrived → Progress
+unfoldable pub afterArrive : Stage → Arrived → Stage
 afterArrive p r = record {
   bench = r .bench;
   at = p .at;
@@ -92,8 +119,29 @@ afterArrive p r = record {
   refusal = refusalOf (arriveAnswer (r .reply));
 }
 
+-- the same of a progress
+unfoldable pub afterSendIn : Progress → SentIn → Progress
+afterSendIn p r = record {
+  totals = r .totals;
+  at = p .at;
+  count = p .count;
+  line = p .line;
+  taken = p .taken;
+  refusal = refusalOf (sendAnswer (r .reply));
+}
+
+unfoldable pub afterArriveIn : Progress → ArrivedIn → Progress
+afterArriveIn p r = record {
+  totals = r .totals;
+  at = p .at;
+  count = p .count;
+  line = p .line;
+  taken = plus (p .taken) (carried (arriveAnswer (r .reply)));
+  refusal = refusalOf (arriveAnswer (r .reply));
+}
+
 -- an event was run
-pub data EventRun (p : Progress) (e : Event) (hops : List Hop) (book : List ℕ) : Progress → List Hop → List ℕ → Type 0 where
+pub data EventRun (p : Stage) (e : Event) (hops : List Hop) (book : List ℕ) : Stage → List Hop → List ℕ → Type 0 where
   sent : {r : SentBench} {hops-left : List Hop} → isSend e ≡ true
       → SendPromise (p .bench) (e .first - 1) (e .second) (e .third) hops r hops-left → EventRun p e hops book (afterSend p r) hops-left book
   arrived : {r : Arrived} {hops-left : List Hop} {book-left : List ℕ} → isSend e ≡ false
@@ -104,20 +152,27 @@ unfoldable pub refusalLines : ℕ → ℕ → List (List ℕ)
 refusalLines line number = cond (eqb number 0) [] (refusedLine line number ∷ [])
 
 -- on to the next event; the output ends at a place
-unfoldable pub advanced : Progress → ℕ → Progress
+unfoldable pub advanced : Stage → ℕ → Stage
 advanced p at = record { bench = p .bench; at = at; count = plus (p .count) 1; line = plus (p .line) 1; taken = p .taken; refusal = 0 }
 
+unfoldable pub advancedIn : Progress → ℕ → Progress
+advancedIn p at = record { totals = p .totals; at = at; count = plus (p .count) 1; line = plus (p .line) 1; taken = p .taken; refusal = 0 }
+
 -- the refusal of the last event was printed
-pub record Noted (p : Progress) (out : List ℕ) (r : Progress) (left : List ℕ) : Type 0 where
+pub record Noted (p : Stage) (out : List ℕ) (r : Stage) (left : List ℕ) : Type 0 where
   pub prints : Written (ended (refusalLines (p .line) (p .refusal))) (p .at) out (r .at) left
   pub goes-on : r ≡ advanced p (r .at)
 
+pub record NotedIn (p : Progress) (out : List ℕ) (r : Progress) (left : List ℕ) : Type 0 where
+  pub prints : Written (ended (refusalLines (p .line) (p .refusal))) (p .at) out (r .at) left
+  pub goes-on : r ≡ advancedIn p (r .at)
+
 -- ---- all events
 
-pub data EventsRun (list : List ℕ) : Progress → List Hop → List ℕ → List ℕ → Progress → List Hop → List ℕ → List ℕ → Type 0 where
-  over : {p : Progress} {hops : List Hop} {book out : List ℕ} → isGoing p list ≡ false → EventsRun list p hops book out p hops book out
-  next : {p q r s : Progress} {hops hops₁ hops₂ : List Hop} {book book₁ book₂ out out₁ out₂ : List ℕ} → isGoing p list ≡ true
-      → EventRun p (eventAt p list) hops book q hops₁ book₁ → Noted q out r out₁ → EventsRun list r hops₁ book₁ out₁ s hops₂ book₂ out₂
+pub data EventsRun (list : List ℕ) : Stage → List Hop → List ℕ → List ℕ → Stage → List Hop → List ℕ → List ℕ → Type 0 where
+  over : {p : Stage} {hops : List Hop} {book out : List ℕ} → isGoing (p .count) list ≡ false → EventsRun list p hops book out p hops book out
+  next : {p q r s : Stage} {hops hops₁ hops₂ : List Hop} {book book₁ book₂ out out₁ out₂ : List ℕ} → isGoing (p .count) list ≡ true
+      → EventRun p (eventAt (p .count) list) hops book q hops₁ book₁ → Noted q out r out₁ → EventsRun list r hops₁ book₁ out₁ s hops₂ book₂ out₂
       → EventsRun list p hops book out s hops₂ book₂ out₂
 
 -- ---- the logs, the hops and the rest
@@ -126,39 +181,43 @@ pub data EventsRun (list : List ℕ) : Progress → List Hop → List ℕ → Li
 abbrev pub HandsBack : Bench → List ℕ → (ℕ → List ℕ) → Type 0
 HandsBack b book logs = (unit : ℕ) (part : List ℕ) → LogPromise b unit book part → part ≡ logs unit
 
--- the log of a unit was printed
-abbrev pub LogPut : Bench → ℕ → List ℕ → List ℕ → ℕ → ℕ → List ℕ → Type 0
-LogPut b unit book out at place left =
-    (logs : ℕ → List ℕ) → HandsBack b book logs → Written (logLine unit (logs unit) ++ 10 ∷ []) at out place left
+-- what `in_place::log` hands back
+unfoldable pub partOf : (tables : List ℕ) → (rows : List (List ℕ)) → (book : List ℕ) → ℕ → List ℕ
+partOf ts rows book u = logPart (benchIn noTotals ts [] rows) u book
 
 -- the logs of the first units
-abbrev pub LogsPut : Bench → ℕ → List ℕ → List ℕ → ℕ → ℕ → List ℕ → Type 0
-LogsPut b units book out at place left =
-    units ≤ 32 → (logs : ℕ → List ℕ) → HandsBack b book logs → Written (ended (logLines units logs)) at out place left
+abbrev pub LogsPut : List ℕ → List (List ℕ) → List ℕ → List ℕ → ℕ → ℕ → List ℕ → Type 0
+LogsPut ts rows book out at place left = getD ts 104 0 ≤ 32 → Written (ended (logLines (getD ts 104 0) (partOf ts rows book))) at out place left
 
 unfoldable pub saysRest : RestAnswer → Bool
 saysRest (RestRefused number) = false
 saysRest (Rest b) = b
 
 -- the end of a run was printed
-pub record Finished (p : Progress) (rest : RestReply) (book out : List ℕ) (r : Totals) (left : List ℕ) : Type 0 where
+pub record FinishedIn (p : Progress) (rest : RestReply) (ts : List ℕ) (rows : List (List ℕ)) (book out : List ℕ) (r : Totals) (left : List ℕ) : Type 0 where
+  pub prints : getD ts 104 0 ≤ 32
+      → Written (ended (logLines (getD ts 104 0) (partOf ts rows book) ++ hopsLine (p .totals .made) ∷ restLine (saysRest (restAnswer rest)) ∷ [])) (p .at) out (r .bytes) left
+  pub sum : r .taken ≡ p .taken
+
+pub record Finished (p : Stage) (rest : RestReply) (book out : List ℕ) (r : Totals) (left : List ℕ) : Type 0 where
   pub prints : p .bench .topology .units ≤ 32 → (logs : ℕ → List ℕ) → HandsBack (p .bench) book logs
       → Written (ended (logLines (p .bench .topology .units) logs ++ hopsLine (p .bench .made) ∷ restLine (saysRest (restAnswer rest)) ∷ [])) (p .at) out (r .bytes) left
   pub sum : r .taken ≡ p .taken
 
--- a run from a fresh bench to its end
-pub record BenchRun (units count : ℕ) (groups parents list : List ℕ) (hops : List Hop) (book out : List ℕ)
-    (r : Totals) (hops-left : List Hop) (book-left left : List ℕ) : Type 0 where
+-- a run from a fresh bench to its end; the bench's messages and rows are lent
+pub record BenchRun (units count : ℕ) (groups parents list messages : List ℕ) (rows : List (List ℕ)) (hops : List Hop) (book out : List ℕ)
+    (r : Totals) (messages-left : List ℕ) (rows-left : List (List ℕ)) (hops-left : List Hop) (book-left left : List ℕ) : Type 0 where
   pub fresh : Fresh
   pub hops-fresh : List Hop
   pub book-fresh : List ℕ
   pub begins : FreshPromise units count groups parents hops book fresh hops-fresh book-fresh
   pub end : Progress
   pub out-events : List ℕ
-  pub runs : EventsRun list (begunWith fresh count) hops-fresh book-fresh out end hops-left book-left out-events
+  pub runs : EventsRun list (stageOf (begunIn count) (tablesOf (fresh .bench .topology)) messages rows) hops-fresh book-fresh out
+      (stageOf end (tablesOf (fresh .bench .topology)) messages-left rows-left) hops-left book-left out-events
   pub rest : RestReply
-  pub rests : RestPromise (end .bench) hops-left rest
-  pub finishes : Finished end rest book-left out-events r left
+  pub rests : rest ≡ restReply (benchIn (end .totals) [] [] []) (length hops)
+  pub finishes : FinishedIn end rest (tablesOf (fresh .bench .topology)) rows-left book-left out-events r left
 
 -- ---- the whole run
 

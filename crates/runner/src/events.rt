@@ -1,20 +1,23 @@
 // The events of a file, run on a bench one after the other; the line of a refused event is printed at once.
+use in_place::Arrived;
+use in_place::Sent;
+use in_place::Totals;
 use relay::ArriveReply;
-use relay::Arrived;
-use relay::Bench;
-use relay::Fresh;
+use relay::RestReply;
 use relay::SendReply;
-use relay::Sent;
 ghost use mathlib.Core.Path.{_≡_};
 ghost use Prim.Native.Nat.{_-_};
+ghost use mathlib.Core.List.{[]};
 ghost use lib.ListN.{getD};
+ghost use Rattle.relay.specs.Machine.{restReply};
+ghost use Rattle.in_place.specs.InPlace.{benchIn};
 ghost use Rattle.model.specs.Demand3.{carried};
 ghost use Rattle.relay.specs.Replies.{sendAnswer, arriveAnswer};
-ghost use Rattle.runner.specs.Steps.{begunWith, isGoing, eventAt, isSend, refusalOf, afterSend, afterArrive, EventRun, Noted, EventsRun};
+ghost use Rattle.runner.specs.Steps.{stageOf, begunIn, isGoing, eventAt, isSend, refusalOf, afterSendIn, afterArriveIn, EventRun, NotedIn, EventsRun};
 
-// How far a run has come.
+// How far a run has come; the tables of the bench stand in lent lists (crate `in_place`).
 pub struct Progress {
-    pub bench: Bench,
+    pub totals: Totals,
     // the place after what was printed
     pub at: usize,
     // how many events were run, and the line of the next
@@ -34,12 +37,12 @@ pub struct Event {
 }
 
 // Before the first event, which stands in the fourth line after those of the groups.
-pub fn begun(fresh: Fresh, groups: usize) -> Progress
-    ensures { λ r. ⌜ r ≡ begunWith fresh groups ⌝ }
+pub fn begun(groups: usize) -> Progress
+    ensures { λ r. ⌜ r ≡ begunIn groups ⌝ }
 {
-    let bench = fresh.bench;
+    let totals = in_place::no_totals();
     Progress {
-        bench,
+        totals,
         at: 0,
         count: 0,
         line: tables::plus((groups % 65536) as u16, 4),
@@ -50,7 +53,7 @@ pub fn begun(fresh: Fresh, groups: usize) -> Progress
 
 // Whether there is one event more. A list has at most 3,000.
 fn is_going(p: Progress, list: &[u16]) -> bool
-    ensures { λ r. ⌜ r ≡ isGoing p (now (list .entry)) ⌝ }
+    ensures { λ r. ⌜ r ≡ isGoing (p .count) (now (list .entry)) ⌝ }
 {
     if 3000 <= p.count {
         return false;
@@ -70,7 +73,7 @@ fn number_at(list: &[u16], i: usize) -> u16
 
 // The next event.
 fn event_at(p: Progress, list: &[u16]) -> Event
-    ensures { λ r. ⌜ r ≡ eventAt p (now (list .entry)) ⌝ }
+    ensures { λ r. ⌜ r ≡ eventAt (p .count) (now (list .entry)) ⌝ }
 {
     let i = 3 * (p.count as usize);
     Event {
@@ -108,10 +111,18 @@ fn third(e: Event) -> u16
     e.third
 }
 
-pub fn bench_of(p: Progress) -> Bench
-    ensures { λ r. ⌜ r ≡ p .bench ⌝ }
+fn totals_of(p: Progress) -> Totals
+    ensures { λ r. ⌜ r ≡ p .totals ⌝ }
 {
-    p.bench
+    p.totals
+}
+
+// What the bench's call `rest` answers.
+pub fn rested(p: Progress, hops: usize) -> RestReply
+    ensures { λ r. ⌜ r ≡ restReply (benchIn (p .totals) [] [] []) hops ⌝ }
+{
+    let totals = p.totals;
+    in_place::rest(totals, hops)
 }
 
 // Why a send was turned away: document 01's number, or 0.
@@ -152,12 +163,12 @@ fn carried_by(reply: ArriveReply) -> u16
 }
 
 fn after_send(p: Progress, sent: Sent) -> Progress
-    ensures { λ r. ⌜ r ≡ afterSend p sent ⌝ }
+    ensures { λ r. ⌜ r ≡ afterSendIn p sent ⌝ }
 {
-    let bench = sent.bench;
+    let totals = sent.totals;
     let reply = sent.reply;
     Progress {
-        bench,
+        totals,
         at: p.at,
         count: p.count,
         line: p.line,
@@ -167,12 +178,12 @@ fn after_send(p: Progress, sent: Sent) -> Progress
 }
 
 fn after_arrive(p: Progress, arrived: Arrived) -> Progress
-    ensures { λ r. ⌜ r ≡ afterArrive p arrived ⌝ }
+    ensures { λ r. ⌜ r ≡ afterArriveIn p arrived ⌝ }
 {
-    let bench = arrived.bench;
+    let totals = arrived.totals;
     let reply = arrived.reply;
     Progress {
-        bench,
+        totals,
         at: p.at,
         count: p.count,
         line: p.line,
@@ -182,22 +193,31 @@ fn after_arrive(p: Progress, arrived: Arrived) -> Progress
 }
 
 // Runs one event.
-fn run_event(p: Progress, e: Event, hops: &mut [model::Hop], book: &mut [u16]) -> Progress
-    ensures { λ r. ⌜ EventRun p e (now (hops .entry)) (now (book .entry)) r (now (hops .exit)) (now (book .exit)) ⌝ }
+fn run_event(
+    p: Progress,
+    e: Event,
+    tables: &[u32],
+    messages: &mut [u16],
+    rows: &mut [[u16; 32]],
+    hops: &mut [model::Hop],
+    book: &mut [u16],
+) -> Progress
+    ensures { λ r. ⌜ EventRun (stageOf p (now (tables .entry)) (now (messages .entry)) (now (rows .entry))) e (now (hops .entry)) (now (book .entry))
+        (stageOf r (now (tables .entry)) (now (messages .exit)) (now (rows .exit))) (now (hops .exit)) (now (book .exit)) ⌝ }
 {
-    let bench = bench_of(p);
-    let group = second(e);
+    let totals = totals_of(p);
+    let second = second(e);
     if is_send(e) {
-        let sent = bench.send(source(e), group, third(e), hops);
+        let sent = in_place::send(totals, source(e), second, third(e), tables, messages, rows, hops);
         return after_send(p, sent);
     }
-    let arrived = bench.arrive(group, hops, book);
+    let arrived = in_place::arrive(totals, second, tables, messages, rows, hops, book);
     after_arrive(p, arrived)
 }
 
 // Prints the line of the last event if it was turned away, and goes on to the next.
 fn noted(p: Progress, out: &mut [u8]) -> Progress
-    ensures { λ r. ⌜ Noted p (now (out .entry)) r (now (out .exit)) ⌝ }
+    ensures { λ r. ⌜ NotedIn p (now (out .entry)) r (now (out .exit)) ⌝ }
 {
     let mut next = p;
     next.count = tables::plus(p.count, 1);
@@ -213,17 +233,21 @@ fn noted(p: Progress, out: &mut [u8]) -> Progress
 pub fn run_events(
     start: Progress,
     list: &[u16],
+    tables: &[u32],
+    messages: &mut [u16],
+    rows: &mut [[u16; 32]],
     hops: &mut [model::Hop],
     book: &mut [u16],
     out: &mut [u8],
 ) -> Progress
-    ensures { λ r. ⌜ EventsRun (now (list .entry)) start (now (hops .entry)) (now (book .entry)) (now (out .entry))
-        r (now (hops .exit)) (now (book .exit)) (now (out .exit)) ⌝ }
+    ensures { λ r. ⌜ EventsRun (now (list .entry)) (stageOf start (now (tables .entry)) (now (messages .entry)) (now (rows .entry)))
+        (now (hops .entry)) (now (book .entry)) (now (out .entry))
+        (stageOf r (now (tables .entry)) (now (messages .exit)) (now (rows .exit))) (now (hops .exit)) (now (book .exit)) (now (out .exit)) ⌝ }
 {
     let mut p = start;
     while is_going(p, list) {
         let e = event_at(p, list);
-        let q = run_event(p, e, hops, book);
+        let q = run_event(p, e, tables, messages, rows, hops, book);
         p = noted(q, out);
     }
     p

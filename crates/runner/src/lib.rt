@@ -60,6 +60,8 @@ fn run_content(content: Content, line: u16, list: &[u16], out: &mut [u8]) -> Run
     }
     let parents = forest.parents;
     let groups = content.groups;
+    let mut messages = [0u16; 600];
+    let mut rows = [[0u16; 32]; 65];
     let mut book = [0u16; 6400];
     let totals = benches::run_bench(
         content.units as usize,
@@ -67,6 +69,8 @@ fn run_content(content: Content, line: u16, list: &[u16], out: &mut [u8]) -> Run
         content.count as usize,
         parents,
         list,
+        &mut messages,
+        &mut rows,
         &mut book,
         out,
     );

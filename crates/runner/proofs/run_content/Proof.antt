@@ -1,6 +1,7 @@
 -- Either the forest's line is printed, or the run's.
 use borrow.Author.Needs.{needs}
-use mathlib.Core.Path.{refl}
+use mathlib.Core.Path.{_≡_, refl}
+use lib.ListN.{length}
 use Rattle.runner.proofs.Outcomes.{content-refused, content-ran}
 use Rattle.runner.proofs.run_content.Statement.{statement}
 use Rattle.runner.proofs.run_content.Tie as tie
@@ -32,6 +33,12 @@ cast-run-bench-2 c = search needs
 slice-aggregate-run-bench : tie.Need-slice-aggregate-run-bench
 slice-aggregate-run-bench c = search needs
 
+slice-aggregate-run-bench-2 : tie.Need-slice-aggregate-run-bench-2
+slice-aggregate-run-bench-2 c = search needs
+
+slice-aggregate-run-bench-3 : tie.Need-slice-aggregate-run-bench-3
+slice-aggregate-run-bench-3 c = search needs
+
 run-bench-requires : tie.Need-run-bench-requires
 run-bench-requires c κs = search needs
 
@@ -43,11 +50,9 @@ same-length-2 c = search needs
 
 returns-2 : tie.Need-returns-2
 returns-2 c =
-    let run = c .before .before .before .before in
-    let number = run .before .before .before .before .before .before .before .before in let forest = number .before in
-    content-ran (forest .forest-of .result .verdict) (forest .forest-of .ensures .0) (number .verdict-number .ensures)
-    (forest .forest-of .result .parents) (run .before .before .before .before .before .before .before .if1 .left) (forest .forest-of .ensures .1) refl
-    (run .run-bench .ensures .1) (c .printed .ensures)
+    let places : length (c .before .before .before .before .before .before .before .before .before .before .before .before .before .before .before .before .before .before .before .before .args .content .groups) ≡ 24 = search (needs, c .before .before .before .before .before .before .before .before .before .before .before .before .before .before .before .before .before .before .before .before .good) in
+    content-ran (c .before .before .before .before .before .before .before .before .before .before .before .before .before .before .before .before .before .forest-of .result .verdict) (c .before .before .before .before .before .before .before .before .before .before .before .before .before .before .before .before .before .forest-of .ensures .0) (c .before .before .before .before .before .before .before .before .before .before .before .before .before .before .before .before .verdict-number .ensures)
+    (c .before .before .before .before .before .before .before .before .before .before .before .before .before .before .before .before .before .forest-of .result .parents) (c .before .before .before .before .before .before .before .before .before .before .before .before .before .before .before .if1 .left) (c .before .before .before .before .before .before .before .before .before .before .before .before .before .before .before .before .before .forest-of .ensures .1) places refl (c .before .before .before .before .before .before .run-bench .ensures .1) (c .printed .ensures)
 
 pub run-content-spec : {M : Type 1} → statement M
 run-content-spec =
@@ -61,6 +66,8 @@ run-content-spec =
     cast-run-bench
     cast-run-bench-2
     slice-aggregate-run-bench
+    slice-aggregate-run-bench-2
+    slice-aggregate-run-bench-3
     run-bench-requires
     printed-requires
     same-length-2

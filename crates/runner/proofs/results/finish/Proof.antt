@@ -25,17 +25,13 @@ same-length c = search needs
 
 returns : tie.Need-returns
 unfolding ended
-returns c =
-    let rest = c .before .before in
-    let hops = rest .before .before .before .before .before in
-    let put = hops .before .before .before .before in
-    record {
-      prints = λ small logs back.
-          rw (ended-append, ← rest .before .is-rest .ensures) (written-append
-          (put .put-logs .ensures small logs back)
-          (rw append-assoc at (written-append (hops .put-hops .ensures) (rest .put-rest .ensures))));
-      sum = refl;
-    }
+returns c = record {
+  prints = λ small.
+      rw (ended-append, ← c .before .before .before .is-rest .ensures) (written-append
+      (c .before .before .before .before .before .before .before .before .before .before .before .before .put-logs .ensures small)
+      (rw append-assoc at (written-append (c .before .before .before .before .before .before .before .put-hops .ensures) (c .before .before .put-rest .ensures))));
+  sum = refl;
+}
 
 pub finish-spec : {M : Type 1} → statement M
 finish-spec =

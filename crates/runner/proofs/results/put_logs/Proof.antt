@@ -7,21 +7,24 @@ use native.Mathlib.Nat.{le-trans}
 use lib.ListN.{length, drop}
 use Rattle.benchfile.specs.File.{ended}
 use Rattle.line_writer.proofs.Texts.{Remains, remains-next, remains-none}
-use Rattle.runner.specs.Steps.{HandsBack}
+use Rattle.runner.specs.Steps.{partOf}
 use Rattle.runner.specs.Printed.{logLines}
 use Rattle.runner.proofs.LogTexts.{logs-next, logs-end}
 use Rattle.runner.proofs.results.put_logs.Statement.{statement}
 use Rattle.runner.proofs.results.put_logs.Tie as tie
 
 abbrev Inv-loop : tie.InvT-loop
-Inv-loop bench units book out₀ at next₀ u₀ out next u = (length out ≡ length out₀) × (units ≤ 32 → (logs : ℕ → List ℕ) → HandsBack bench book logs
-    → Remains (ended (drop u (logLines units logs))) (ended (logLines units logs)) at out₀ next out)
+Inv-loop tables rows book out₀ at units next₀ u₀ out next u = (length out ≡ length out₀) × (units ≤ 32
+    → Remains (ended (drop u (logLines units (partOf tables rows book)))) (ended (logLines units (partOf tables rows book))) at out₀ next out)
 
 abbrev μ-loop : tie.MeasureT-loop
-μ-loop bench units book out₀ at next₀ u₀ out next u = 32 - u
+μ-loop tables rows book out₀ at units next₀ u₀ out next u = 32 - u
+
+unit-count-requires : tie.Need-unit-count-requires Inv-loop μ-loop
+unit-count-requires c κs = search needs
 
 loop-holds : tie.Need-loop-holds Inv-loop μ-loop
-loop-holds c = (search needs, λ small logs back place left w. w)
+loop-holds c = (search needs, λ small place left w. w)
 
 cast-if1 : tie.Need-cast-if1 Inv-loop μ-loop
 cast-if1 c = search needs
@@ -30,7 +33,7 @@ same-length : tie.Need-same-length Inv-loop μ-loop
 same-length c = c .before .before .loop .inv .0
 
 returns : tie.Need-returns Inv-loop μ-loop
-returns c = λ small logs back. remains-none (rw (logs-end _ _ logs (c .if1 .taken)) at (c .before .before .loop .inv .1 small logs back))
+returns c = λ small. rw (← c .before .before .before .unit-count .ensures) (remains-none (rw (logs-end _ _ _ (c .if1 .taken)) at (c .before .before .loop .inv .1 (rw (c .before .before .before .unit-count .ensures) small))))
 
 put-unit-requires : tie.Need-put-unit-requires Inv-loop μ-loop
 put-unit-requires c κs = search needs
@@ -42,20 +45,18 @@ loop-less : tie.Need-loop-less Inv-loop μ-loop
 loop-less c = search needs
 
 loop-again : tie.Need-loop-again Inv-loop μ-loop
-loop-again c =
-    let call = c .before .before in
-    let test = call .before .before in
-    let loop = test .before .before .loop in (
-      search needs,
-      λ small logs back. remains-next (rw (logs-next _ _ logs (test .if1 .left)) at (loop .inv .1 small logs back)) (call .put-unit .ensures logs back),
-    )
+loop-again c = (
+  search needs,
+  λ small. remains-next (rw (logs-next _ _ _ (c .before .before .before .before .if1 .left)) at (c .before .before .before .before .before .before .loop .inv .1 small)) (c .before .before .put-unit .ensures),
+)
 
 same-length-2 : tie.Need-same-length-2 Inv-loop μ-loop
 same-length-2 c = c .before .loop .inv .0
 
 returns-2 : tie.Need-returns-2 Inv-loop μ-loop
-returns-2 c = λ small logs back.
-    remains-none (rw (logs-end _ _ logs (le-trans small (c .loop-test .left))) at (c .before .loop .inv .1 small logs back))
+returns-2 c = λ small.
+    let few : c .before .before .unit-count .result ≤ 32 = rw (c .before .before .unit-count .ensures) small in
+    rw (← c .before .before .unit-count .ensures) (remains-none (rw (logs-end _ _ _ (le-trans few (c .loop-test .left))) at (c .before .loop .inv .1 few)))
 
 pub put-logs-spec : {M : Type 1} → statement M
 put-logs-spec =
@@ -63,6 +64,7 @@ put-logs-spec =
     (tie.spec
     Inv-loop
     μ-loop
+    unit-count-requires
     loop-holds
     cast-if1
     same-length

@@ -6,6 +6,7 @@ use lib.Dec.{ltb, eqb}
 use lib.ListN.{getD, set, take, drop, replicate}
 use Rattle.sets.specs.Sets.{member, intersection, size}
 use Rattle.model.specs.declared.Hop.{Hop}
+use Rattle.layout.specs.Tables.{tabulate}
 use Rattle.routing.specs.declared.Topology.{Topology}
 use Rattle.tables.specs.declared.messages.Messages.{Messages}
 use Rattle.tables.specs.Values.{plus, byte, added, logged}
@@ -53,6 +54,21 @@ benchIn t ts ms rows = record {
 
 unfoldable pub totalsOf : Bench → Totals
 totalsOf b = record { made = b .made; taken = b .taken; sent = b .messages .sent; routed = b .messages .routed }
+
+-- the tables of a topology: its groups, routes, children and primaries, the units, the count of groups
+unfoldable pub tableEntry : Topology → ℕ → ℕ
+tableEntry T i =
+    cond (ltb i 24) (getD (T .groups) i 0)
+    (cond (ltb i 48) (getD (T .routes) (i - 24) 0)
+    (cond (ltb i 80) (getD (T .children) (i - 48) 0)
+    (cond (ltb i 104) (getD (T .primaries) (i - 80) 0)
+    (cond (eqb i 104) (T .units % 4294967296) (T .count % 4294967296)))))
+
+unfoldable pub tablesOf : Topology → List ℕ
+tablesOf T = tabulate 106 (tableEntry T)
+
+unfoldable pub noTotals : Totals
+noTotals = record { made = 0; taken = 0; sent = 0; routed = 0 }
 
 -- ---- rows
 

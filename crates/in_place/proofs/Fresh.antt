@@ -124,7 +124,7 @@ topology-in n c gs ps n-fits c-fits long =
       groups = (groups-part T ∙ whole-table gs 24 long) i;
       children = (children-part T ∙ whole-table (tabulate 32 (childrenOf ps)) 32 (length-tabulate 32 (childrenOf ps))) i;
       primaries = (ap (map (λ x. x % 256)) (primaries-part T ∙ whole-table primaries 24 (length-tabulate 24 _))
-      ∙ bytes 24 (λ g. primary ps (getD gs g 0)) (λ g. primary-small ps (getD gs g 0))) i;
+          ∙ bytes 24 (λ g. primary ps (getD gs g 0)) (λ g. primary-small ps (getD gs g 0))) i;
       routes = (routes-part T ∙ whole-table (tabulate 24 (λ g. route ps (getD gs g 0))) 24 (length-tabulate 24 _)) i;
     }
 

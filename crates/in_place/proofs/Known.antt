@@ -184,8 +184,10 @@ module _ {M : Type 1} (𝓤 : URA M) (H : Heap 𝓤) (A : Atoms 𝓤) where
       stating 𝓤 H A 3 (value T by-totals ∷ value u8 (by-uint w8) ∷ value u16 (by-uint w16) ∷ value u16 (by-uint w16) ∷ value u16 (by-uint w16) ∷
       relayed 0 tt u32 (by-uint w32) ∷ lent 1 tt u16 ∷ lent 2 tt Row ∷ []) Sent.the-row by-sent result-and-lists
       (λ d. sentIn (sentResult (benchIn (d .0) (d .1 .1 .1 .1 .1 .0) [] []) (d .1 .0) (d .1 .1 .0) (d .1 .1 .1 .0) (d .1 .1 .1 .1 .0)))
-      (λ d. (sendMessages (d .1 .0) (d .0) (d .1 .1 .0) (d .1 .1 .1 .0) (d .1 .1 .1 .1 .0) (d .1 .1 .1 .1 .1 .1 .0),
-      (sendRows (d .1 .0) (d .1 .1 .1 .1 .1 .0) (d .1 .1 .0) (d .1 .1 .1 .0) (d .1 .1 .1 .1 .1 .1 .1 .0), tt)))
+      (λ d. (
+        sendMessages (d .1 .0) (d .0) (d .1 .1 .0) (d .1 .1 .1 .0) (d .1 .1 .1 .1 .0) (d .1 .1 .1 .1 .1 .1 .0),
+        (sendRows (d .1 .0) (d .1 .1 .1 .1 .1 .0) (d .1 .1 .0) (d .1 .1 .1 .0) (d .1 .1 .1 .1 .1 .1 .1 .0), tt),
+      ))
 
   abbrev pub send-callee : Callee 𝓤 H A
   send-callee =

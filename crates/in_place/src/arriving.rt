@@ -98,7 +98,14 @@ fn less(a: u16, b: u16) -> u16
 }
 
 // The arrival of a hop, whose record is h, at a bench that is lent so many hops and log numbers.
-fn begun(t: Totals, hop: u16, h: model::Hop, rows: &[[u16; 32]], hops: usize, book: usize) -> Passage
+fn begun(
+    t: Totals,
+    hop: u16,
+    h: model::Hop,
+    rows: &[[u16; 32]],
+    hops: usize,
+    book: usize,
+) -> Passage
     ensures { λ r. ⌜ r ≡ passageOf (received (benchIn t [] [] (now (rows .entry))) hop h hops book) ⌝ }
 {
     let number = refusal(t.made, hop, hops, book);
@@ -235,7 +242,13 @@ fn after_copy(p: Passage, d: Delivery, f: hops::Forwarding) -> Passage
 }
 
 // One copy is taken: its hop, the receiver's log, and the hops to the children.
-fn take(p: Passage, tables: &[u32], messages: &[u16], hops: &mut [model::Hop], book: &mut [u16]) -> Passage
+fn take(
+    p: Passage,
+    tables: &[u32],
+    messages: &[u16],
+    hops: &mut [model::Hop],
+    book: &mut [u16],
+) -> Passage
     ensures { λ r. ⌜ (r ≡ takeIn (now (tables .entry)) (now (messages .entry)) p (now (hops .entry)))
         × (now (hops .exit) ≡ takeHops (arrivalIn (now (tables .entry)) (now (messages .entry)) p) (now (hops .entry)))
         × (now (book .exit) ≡ takeBook (arrivalIn (now (tables .entry)) (now (messages .entry)) p) (now (hops .entry)) (now (book .entry))) ⌝ }
@@ -301,7 +314,13 @@ fn next(p: Passage, hops: &[model::Hop]) -> Passage
 }
 
 // As long as the next hop of the pair is held, it is taken.
-fn settle(start: Passage, tables: &[u32], messages: &[u16], hops: &mut [model::Hop], book: &mut [u16]) -> Passage
+fn settle(
+    start: Passage,
+    tables: &[u32],
+    messages: &[u16],
+    hops: &mut [model::Hop],
+    book: &mut [u16],
+) -> Passage
     ensures { λ r. ⌜ (r ≡ passageOf (settledIn (now (tables .entry)) (now (messages .entry)) start (now (hops .entry)) (now (book .entry)) .arrival))
         × (now (hops .exit) ≡ settledIn (now (tables .entry)) (now (messages .entry)) start (now (hops .entry)) (now (book .entry)) .hops)
         × (now (book .exit) ≡ settledIn (now (tables .entry)) (now (messages .entry)) start (now (hops .entry)) (now (book .entry)) .book) ⌝ }

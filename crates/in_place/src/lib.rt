@@ -6,11 +6,17 @@
 mod arriving;
 mod lists;
 mod sending;
+mod whole;
 
 pub use arriving::arrive;
-pub use sending::send;
 use relay::ArriveReply;
 use relay::SendReply;
+pub use sending::send;
+pub use whole::log;
+pub use whole::no_totals;
+pub use whole::rest;
+pub use whole::tables_of;
+pub use whole::unit_count;
 
 // Hops made and taken, messages sent, and the sum of their route sizes.
 pub struct Totals {

@@ -62,22 +62,22 @@ at-requires-3 c κs = search needs
 returns : tie.Need-returns
 unfolding passageOf received benchIn countOf rowOf madeRow takenRow isOut
 returns c = rw (
-      c .at3 .ensures,
-      c .before .less .ensures,
-      c .before .before .choose3 .ensures,
-      c .before .before .before .choose2 .ensures,
-      c .before .before .before .before .before .made-row2 .ensures,
-      c .before .before .before .before .before .before .row-at .ensures,
-      c .before .before .before .before .before .before .before .choose .ensures,
-      c .before .before .before .before .before .before .before .before .before .is-next .ensures,
-      c .before .before .before .before .before .before .before .before .before .before .at2 .ensures,
-      c .before .before .before .before .before .before .before .before .before .before .before .at .ensures,
-      c .before .before .before .before .before .before .before .before .before .before .before .before .taken-row .ensures,
-      c .before .before .before .before .before .before .before .before .before .before .before .before .before .made-row .ensures,
-      c .before .before .before .before .before .before .before .before .before .before .before .before .before .before .before .before .is-open .ensures,
-      c .before .before .before .before .before .before .before .before .before .before .before .before .before .before .before .before .before .refusal .ensures,
-      missing-row (c .before .before .before .before .before .before .before .before .before .before .before .before .before .before .before .before .before .before .args .rows .now) 64 (c .before .before .before .before .before .before .before .before .before .before .before .before .before .before .before .before .before .before .args .h .receiver),
-    )
+  c .at3 .ensures,
+  c .before .less .ensures,
+  c .before .before .choose3 .ensures,
+  c .before .before .before .choose2 .ensures,
+  c .before .before .before .before .before .made-row2 .ensures,
+  c .before .before .before .before .before .before .row-at .ensures,
+  c .before .before .before .before .before .before .before .choose .ensures,
+  c .before .before .before .before .before .before .before .before .before .is-next .ensures,
+  c .before .before .before .before .before .before .before .before .before .before .at2 .ensures,
+  c .before .before .before .before .before .before .before .before .before .before .before .at .ensures,
+  c .before .before .before .before .before .before .before .before .before .before .before .before .taken-row .ensures,
+  c .before .before .before .before .before .before .before .before .before .before .before .before .before .made-row .ensures,
+  c .before .before .before .before .before .before .before .before .before .before .before .before .before .before .before .before .is-open .ensures,
+  c .before .before .before .before .before .before .before .before .before .before .before .before .before .before .before .before .before .refusal .ensures,
+  missing-row (c .before .before .before .before .before .before .before .before .before .before .before .before .before .before .before .before .before .before .args .rows .now) 64 (c .before .before .before .before .before .before .before .before .before .before .before .before .before .before .before .before .before .before .args .h .receiver),
+)
 
 pub begun-spec : {M : Type 1} → statement M
 begun-spec =

@@ -31,13 +31,13 @@ cast-if4 c = search needs
 returns-4 : tie.Need-returns-4
 unfolding sendRefusal sizeAt refuse benchIn topologyIn messagesIn
 returns-4 c = rw (
-      le-ltb _ _ (c .before .before .before .before .before .before .if1 .left),
-      ← c .before .before .before .before .before .units .ensures,
-      lt-leb _ _ (c .before .before .before .before .if2 .left),
-      ← c .before .before .before .count .ensures,
-      lt-leb _ _ (c .before .before .if3 .left),
-      le-leb _ _ (c .if4 .taken),
-    )
+  le-ltb _ _ (c .before .before .before .before .before .before .if1 .left),
+  ← c .before .before .before .before .before .units .ensures,
+  lt-leb _ _ (c .before .before .before .before .if2 .left),
+  ← c .before .before .before .count .ensures,
+  lt-leb _ _ (c .before .before .if3 .left),
+  le-leb _ _ (c .if4 .taken),
+)
 
 route-size-requires : tie.Need-route-size-requires
 route-size-requires c κs = search needs
@@ -51,30 +51,30 @@ cast-if5 c = search needs
 returns-5 : tie.Need-returns-5
 unfolding sendRefusal sizeAt refuse benchIn topologyIn messagesIn
 returns-5 c = rw (
-      le-ltb _ _ (c .before .before .before .before .before .before .before .before .before .if1 .left),
-      ← c .before .before .before .before .before .before .before .before .units .ensures,
-      lt-leb _ _ (c .before .before .before .before .before .before .before .if2 .left),
-      ← c .before .before .before .before .before .before .count .ensures,
-      lt-leb _ _ (c .before .before .before .before .before .if3 .left),
-      lt-leb _ _ (c .before .before .before .if4 .left),
-      ← c .before .before .route-size .ensures,
-      ← c .before .plus .ensures,
-      lt-ltb _ _ (c .if5 .taken),
-    )
+  le-ltb _ _ (c .before .before .before .before .before .before .before .before .before .if1 .left),
+  ← c .before .before .before .before .before .before .before .before .units .ensures,
+  lt-leb _ _ (c .before .before .before .before .before .before .before .if2 .left),
+  ← c .before .before .before .before .before .before .count .ensures,
+  lt-leb _ _ (c .before .before .before .before .before .if3 .left),
+  lt-leb _ _ (c .before .before .before .if4 .left),
+  ← c .before .before .route-size .ensures,
+  ← c .before .plus .ensures,
+  lt-ltb _ _ (c .if5 .taken),
+)
 
 returns-6 : tie.Need-returns-6
 unfolding sendRefusal sizeAt refuse benchIn topologyIn messagesIn
 returns-6 c = rw (
-      le-ltb _ _ (c .before .before .before .before .before .before .before .before .before .if1 .left),
-      ← c .before .before .before .before .before .before .before .before .units .ensures,
-      lt-leb _ _ (c .before .before .before .before .before .before .before .if2 .left),
-      ← c .before .before .before .before .before .before .count .ensures,
-      lt-leb _ _ (c .before .before .before .before .before .if3 .left),
-      lt-leb _ _ (c .before .before .before .if4 .left),
-      ← c .before .before .route-size .ensures,
-      ← c .before .plus .ensures,
-      le-ltb _ _ (c .if5 .left),
-    )
+  le-ltb _ _ (c .before .before .before .before .before .before .before .before .before .if1 .left),
+  ← c .before .before .before .before .before .before .before .before .units .ensures,
+  lt-leb _ _ (c .before .before .before .before .before .before .before .if2 .left),
+  ← c .before .before .before .before .before .before .count .ensures,
+  lt-leb _ _ (c .before .before .before .before .before .if3 .left),
+  lt-leb _ _ (c .before .before .before .if4 .left),
+  ← c .before .before .route-size .ensures,
+  ← c .before .plus .ensures,
+  le-ltb _ _ (c .if5 .left),
+)
 
 pub refusal-spec : {M : Type 1} → statement M
 refusal-spec =

@@ -1,4 +1,4 @@
--- What a caller knows of the functions that the walks of this crate call, and of `send` and `arrive`, for the step `calls` of walks' Calling.antt: how their parameters
+-- What a caller knows of the functions that the walks of this crate call, and of `send`, `arrive`, `tables_of`, `no_totals` and `rest`, for the step `calls` of walks' Calling.antt: how their parameters
 -- are passed, and the rules of their contracts.
 --     by-passage, by-totals, ..    the structs that are passed by value
 --     Row                          a row of 32 numbers
@@ -19,12 +19,16 @@ use denote.RattleType.{RattleType}
 use Rattle.model.specs.declared.Hop.{Hop}
 use Rattle.relay.specs.declared.Bench.{Bench}
 use Rattle.relay.specs.Machine.{received, isGoing, searchFrom, searchEnd, movedTo, takeHops, takeBook, arriveResult, arriveHops, arriveBook}
-use Rattle.relay.specs.Machine.{sendRefusal, firstHop, sentResult, sendResult, sendHops}
+use Rattle.relay.specs.Machine.{sendRefusal, firstHop, sentResult, sendResult, sendHops, restReply}
 use Rattle.in_place.specs.declared.Totals.{Totals}
 use Rattle.in_place.specs.InPlace.{benchIn, passageOf, arrivalIn, alone, deliveryIn, logDelivery, outgoingOf, afterDelivery, takeIn, nextIn, settledIn, finishedIn}
-use Rattle.in_place.specs.InPlace.{finishedRows, arrivedIn, arriveRows, sentIn, sendMessages, sendRows}
+use Rattle.in_place.specs.InPlace.{finishedRows, arrivedIn, arriveRows, sentIn, sendMessages, sendRows, tablesOf, noTotals}
 use Rattle.hops.proofs.Records.{R, by-hop}
 use Rattle.hops.proofs.Called.{F, by-forwarding}
+use Rattle.relay.proofs.Known.{by-rest-reply}
+use Rattle.relay.proofs.replies.RestReply as RestReply
+use Rattle.routing.proofs.Topology as Topology
+use Rattle.routing.proofs.Topology.Laws as Topology′
 use Rattle.walks.proofs.Values.{ByValue, by-uint, by-bool, by-unit, by-struct, by-array}
 use Rattle.walks.proofs.Calling.{value, lent, shown, relayed, Callee}
 use Rattle.walks.proofs.ByRule.{Telling, stating, by-rule, the-result, the-list, result-and-list, result-and-lists}
@@ -54,6 +58,12 @@ by-sent = by-struct Sent.the-type Sent′.the-laws Sent′.the-plain Sent′.the
 
 abbrev pub by-arrived : ByValue Arrived.the-row
 by-arrived = by-struct Arrived.the-type Arrived′.the-laws Arrived′.the-plain Arrived′.the-copy Arrived′.lowers
+
+abbrev pub by-topology : ByValue Topology.the-row
+by-topology = by-struct Topology.the-type Topology′.the-laws Topology′.the-plain Topology′.the-copy Topology′.lowers
+
+abbrev pub by-tables : ByValue (Array u32 106)
+by-tables = by-array u32 (by-uint w32) 106
 
 abbrev pub P : RattleType
 P = Passage.the-row
@@ -197,3 +207,13 @@ module _ {M : Type 1} (𝓤 : URA M) (H : Heap 𝓤) (A : Atoms 𝓤) where
       (λ d. let t = d .0 in let s = d .1 .0 in let g = d .1 .1 .0 in let ts = d .1 .1 .1 .1 .0 in let rows = d .1 .1 .1 .1 .1 .1 .0 in let hs = d .1 .1 .1 .1 .1 .1 .1 .0 in
       let refusal = sendRefusal (benchIn t ts [] []) s g (length hs) in
       (sendMessages refusal t s g (d .1 .1 .1 .0) (d .1 .1 .1 .1 .1 .0), (sendRows refusal ts s g rows, (sendHops (benchIn t ts [] rows) s g hs, tt))))
+
+  -- ---- of whole.rt
+  abbrev pub tables-of-callee : Callee 𝓤 H A
+  tables-of-callee = by-rule 𝓤 H A (value Topology.the-row by-topology ∷ []) (Array u32 106) by-tables (λ d. tablesOf (d .0))
+
+  abbrev pub no-totals-callee : Callee 𝓤 H A
+  no-totals-callee = by-rule 𝓤 H A [] T by-totals (λ d. noTotals)
+
+  abbrev pub rest-callee : Callee 𝓤 H A
+  rest-callee = by-rule 𝓤 H A (value T by-totals ∷ value usize (by-uint w64) ∷ []) RestReply.the-row by-rest-reply (λ d. restReply (benchIn (d .0) [] [] []) (d .1 .0))

@@ -1,5 +1,5 @@
--- What a caller knows of the functions that the walks of this crate call, and of `send`, `arrive`, `tables_of`, `no_totals` and `rest`, for the step `calls` of walks' Calling.antt: how their parameters
--- are passed, and the rules of their contracts.
+-- What a caller knows of the functions that the walks of this crate call, and of `send`, `arrive`, `tables_of`, `no_totals` and `rest`, for the step `calls` of walks'
+-- Calling.antt: how their parameters are passed, and the rules of their contracts.
 --     by-passage, by-totals, ..    the structs that are passed by value
 --     Row                          a row of 32 numbers
 --     ..-callee                    a function. `next` is for one that holds a `&[Hop]`, and `next-shown` for one that holds a `&mut [Hop]`

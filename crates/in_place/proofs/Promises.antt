@@ -1,4 +1,5 @@
--- The lists after a call say the bench that the relay's call leaves, and the lists of a fresh bench say the fresh bench; messages and rows have no part in some answers.
+-- The lists after `send` and `arrive` say the bench that the relay's call leaves (arrive-leaves, send-leaves). Lists that have no part in an answer: send-answers, send-hops,
+-- log-same, rest-same.
 use mathlib.Core.Path.{_≡_, refl, sym, ap, _∙_}
 use mathlib.Core.Logic.{by-cases}
 use mathlib.Core.Bool.{Bool, true, false, cond}
@@ -13,7 +14,6 @@ use lib.Seq.{set-out, take-set-le, take-set-lt, drop-set-lt, drop-set-add, getD-
 use Rattle.sets.proofs.Bools.{cond-true, cond-false}
 use Rattle.model.specs.declared.Hop.{Hop}
 use Rattle.tables.specs.Values.{byte, rowOf, added, recorded}
-use Rattle.tables.specs.declared.messages.Messages.{Messages}
 use Rattle.tables.proofs.Entries.{any-default}
 use Rattle.relay.specs.declared.Bench.{Bench}
 use Rattle.relay.specs.declared.arrival.Arrival.{Arrival}
@@ -21,7 +21,6 @@ use Rattle.relay.specs.Machine.{arriveEnd, updatedBench, finishedBench, finishe
 use Rattle.relay.specs.Machine.{sizeAt, countOf, sendRefusal, firstHop, recordedBench, sentBench, sentReply, sentResult, sendResult, sendHops}
 use Rattle.relay.specs.Machine.{unlessRefused, logStart, logCount, logPart, restReply}
 use Rattle.in_place.specs.declared.Totals.{Totals}
-use Rattle.in_place.specs.declared.Sent.{Sent}
 use Rattle.in_place.specs.declared.arriving.Passage.{Passage}
 use Rattle.in_place.specs.InPlace.{topologyIn, primariesIn, messagesIn, benchIn, totalsOf, noTotals, madeRow, takenRow, withMade, withTaken, passageOf, updatedRows, finishedRows, arriveRows}
 use Rattle.in_place.specs.InPlace.{sentIn, recordedMessages, recordedRows, sendMessages, sendRows}
@@ -37,6 +36,7 @@ same t ts ms rows = refl
 past-part : {A : Type 0} (n : ℕ) (l : List A) (i : ℕ) (a : A) → n ≤ i → take n l ≡ set (take n l) i a
 past-part n l i a h = sym (set-out (take n l) i a (let z : length (take n l) ≤ i = omega (arith, length-take n l) in z))
 
+-- f of what a test of i chooses
 chosen : {A B : Type 0} (f : A → B) (i n : ℕ) (x y : A) (z : B) → (i < n → f x ≡ z) → (n ≤ i → f y ≡ z) → f (cond (ltb i n) x y) ≡ z
 chosen f i n x y z within past = by-cases (decLt i n)
     (λ (h : i < n). ap f (cond-true _ x y (lt-ltb i n h)) ∙ within h)

@@ -2,11 +2,11 @@
 use borrow.Author.Needs.{needs}
 use mathlib.Core.Path.{_≡_, ap, _∙_}
 use mathlib.Core.List.{List, []}
-use Prim.Native.Nat.{ℕ, _+_, _-_, _≤_}
+use Prim.Native.Nat.{ℕ, _+_, _-_}
 use native.Mathlib.Omega.{arith}
 use lib.ListN.{length, take, drop}
 use Rattle.relay.specs.declared.Bench.{Bench}
-use Rattle.relay.specs.Machine.{unlessRefused, logStart, logCount, logPart}
+use Rattle.relay.specs.Machine.{unlessRefused, logStart, logPart}
 use Rattle.relay.proofs.LogParts.{log-inside}
 use Rattle.in_place.specs.InPlace.{benchIn, noTotals}
 use Rattle.in_place.proofs.whole.log.Statement.{statement}

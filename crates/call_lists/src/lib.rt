@@ -1,0 +1,4 @@
+// A list of calls, run on a fresh bench; what they answer and leave, as numbers of 16 bits.
+pub mod answers;
+
+pub use answers::Answer;

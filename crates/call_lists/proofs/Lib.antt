@@ -1,1 +1,5 @@
 pub mod Verdicts
+pub mod Threes
+pub mod Puts
+pub mod Lent
+pub mod Known

@@ -5,4 +5,5 @@ pub mod Lent
 pub mod Records
 pub mod States
 pub mod Runs
+pub mod Outcomes
 pub mod Known

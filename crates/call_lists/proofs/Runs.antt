@@ -4,11 +4,12 @@ use mathlib.Core.Bool.{Bool, true, false, not}
 use mathlib.Core.Logic.{by-cases}
 use mathlib.Core.List.{List, [], _∷_, _++_, append-nil, append-assoc}
 use Prim.Native.Nat.{ℕ, suc, _+_, _*_, _-_, _/_, _%_, _≤_, _<_, min}
+use Prim.Native.Nat.{zero-le}
 use native.Mathlib.Nat.{min-le-right}
 use native.Mathlib.Decide.{ℕ-discrete}
 use native.Mathlib.Omega.{arith}
 use borrow.Author.Tests.{eq-eqb, ne-eqb}
-use lib.ListN.{length, take, drop, length-drop}
+use lib.ListN.{length, take, drop, length-append, length-drop}
 use lib.Seq.{length-take-le, drop-drop}
 use lib.Dec.{eqb}
 use Rattle.sets.proofs.Bools.{clash}
@@ -16,13 +17,13 @@ use Rattle.text.specs.Writing.{Written}
 use Rattle.text.proofs.Written.{written-none, written-append}
 use Rattle.model.specs.declared.Hop.{Hop}
 use Rattle.model.specs.Network.{Plan, Network}
-use Rattle.model.specs.Rules.{Answer, Outcome, outcome, answerOf, leftOf}
-use Rattle.model.specs.Calls.{Call, Send as SendCall, Arrive as ArriveCall, call, LogAnswer, log, rest as restOf}
+use Rattle.model.specs.Rules.{Answer, Refused, Sent, Repeat, Held, Taken, Outcome, outcome, answerOf, leftOf}
+use Rattle.model.specs.Calls.{Call, Send as SendCall, Arrive as ArriveCall, call, LogAnswer, log, RestAnswer, RestRefused, Rest as RestSays, rest as restOf}
 use Rattle.model.specs.Demand3.{Planned}
 use Rattle.model.specs.Claims.{Limits}
 use Rattle.model.proofs.Replies.{refuse-either}
 use Rattle.relay.specs.declared.Bench.{Bench}
-use Rattle.relay.specs.Replies.{sendAnswer, arriveAnswer, restAnswer, logAnswer}
+use Rattle.relay.specs.Replies.{LengthAnswer, LengthRefused, Length as LengthIs, sendAnswer, arriveAnswer, restAnswer, logAnswer}
 use Rattle.relay.specs.Promises.{after, handedBack, lengthAnswer}
 use Rattle.call_lists.specs.Rules.{Request, Send, Arrive, Log, Length, Rest, requestOf, requestsOf, answerNumbers, lengthNumbers, restNumbers, logNumbers, Replied, replied, answeredAs}
 use Rattle.call_lists.specs.Rules.{reply, followed, runFrom}
@@ -93,6 +94,28 @@ module _ (size : ℕ) where
 
 -- ---- replies
 
+answer-length : (a : Answer) → length (answerNumbers a) ≡ 3
+unfolding answerNumbers
+answer-length (Refused number) = refl
+answer-length (Sent m) = refl
+answer-length Repeat = refl
+answer-length Held = refl
+answer-length (Taken n) = refl
+
+length-length : (a : LengthAnswer) → length (lengthNumbers a) ≡ 3
+unfolding lengthNumbers
+length-length (LengthRefused number) = refl
+length-length (LengthIs n) = refl
+
+rest-length : (a : RestAnswer) → length (restNumbers a) ≡ 3
+unfolding restNumbers
+rest-length (RestRefused number) = refl
+rest-length (RestSays b) = refl
+
+log-length : (l : List ℕ) → length l ≤ 200 → length (logNumbers l) ≤ 203
+unfolding logNumbers
+log-length l h = omega (arith, h)
+
 answered-is : (o : Outcome) → answeredAs o ≡ replied (answerNumbers (answerOf o)) (leftOf o)
 unfolding answeredAs answerOf leftOf
 answered-is (outcome a W) = refl
@@ -127,6 +150,7 @@ module _ (P : Plan) (planned : Planned P) (tail : List Hop) (rest : List ℕ) (e
     is : reply P x (after P cs) ≡ replied numbers (after P calls)
     state : At P planned tail rest calls b hops book
     puts : Written numbers at out place left
+    small : length numbers ≤ 203
 
   module _ {cs : List Call} {b : Bench} {hops : List Hop} {book : List ℕ} (at₀ : At P planned tail rest cs b hops book) (q : Asked) where
     hops-lent : length (take (hopsLent q hops) hops) ≡ min (q .hops) 2008
@@ -152,6 +176,7 @@ module _ (P : Plan) (planned : Planned P) (tail : List Hop) (rest : List ℕ) (e
           state = X .1;
           puts = written-is (answer-three (sendAnswer (r .reply)) ∙ ap answerNumbers (X .0))
               (three-put put (λ e. clash t (ap (λ (k : ℕ). eqb k 0) e)) (λ e. clash t (ap (λ (k : ℕ). eqb k 0) e)));
+          small = omega (arith, answer-length (answerOf o));
         }
     stepped (arrived {r = r} f t promise) put =
         let c = ArriveCall (q .a) (min (q .hops) 2008) (min (q .book) size) in
@@ -164,6 +189,7 @@ module _ (P : Plan) (planned : Planned P) (tail : List Hop) (rest : List ℕ) (e
           state = X .1;
           puts = written-is (answer-three (arriveAnswer (r .reply)) ∙ ap answerNumbers (X .0))
               (three-put put (λ e. clash t (ap (λ (k : ℕ). eqb k 1) e)) (λ e. clash t (ap (λ (k : ℕ). eqb k 1) e)));
+          small = omega (arith, answer-length (answerOf o));
         }
     stepped (looked f f′ promise) (put-log k x) =
         let W = after P cs in
@@ -177,6 +203,7 @@ module _ (P : Plan) (planned : Planned P) (tail : List Hop) (rest : List ℕ) (e
           is = ap (λ (y : Request). reply P y W) (as-log size (q .kind) (q .a) (q .b) (q .c) (q .hops) (q .book) k);
           state = at₀;
           puts = written-is (log-numbers part counted ∙ ap logNumbers same) (x .puts);
+          small = log-length _ (handed-small P (q .a) (min (q .book) size) W (within P planned cs));
         }
     stepped (looked f f′ promise) (put-length k x) =
         let W = after P cs in record {
@@ -185,6 +212,7 @@ module _ (P : Plan) (planned : Planned P) (tail : List Hop) (rest : List ℕ) (e
           is = ap (λ (y : Request). reply P y W) (as-length size (q .kind) (q .a) (q .b) (q .c) (q .hops) (q .book) k);
           state = at₀;
           puts = written-is (ap lengthNumbers (length-at P planned at₀ (q .a) (bookLent q book) (x .promise) ∙ ap (λ (n : ℕ). lengthAnswer (log P (q .a) n W)) book-lent)) (x .puts);
+          small = omega (arith, length-length (lengthAnswer (log P (q .a) (min (q .book) size) W)));
         }
     stepped (looked {r = r} f f′ promise) (put-three not-2 not-3 w) =
         let W = after P cs in record {
@@ -193,6 +221,7 @@ module _ (P : Plan) (planned : Planned P) (tail : List Hop) (rest : List ℕ) (e
           is = ap (λ (y : Request). reply P y W) (as-rest size (q .kind) (q .a) (q .b) (q .c) (q .hops) (q .book) f f′ not-2 not-3);
           state = at₀;
           puts = written-is (rest-three (restAnswer r) ∙ ap restNumbers (rested-at P planned at₀ (hopsLent q hops) promise ∙ ap (λ (n : ℕ). restOf n W) hops-lent)) w;
+          small = omega (arith, rest-length (restOf (min (q .hops) 2008) W));
         }
 
   -- ---- all calls
@@ -203,6 +232,7 @@ module _ (P : Plan) (planned : Planned P) (tail : List Hop) (rest : List ℕ) (e
     pub is : runFrom P (requestsOf size (drop (6 * (length list / 6 - p .left)) list)) (replied ns (after P cs)) ≡ replied (ns ++ numbers) (after P calls)
     pub state : At P planned tail rest calls b hops book
     pub puts : Written numbers (p .at) out (p′ .at) left
+    pub small : length numbers ≤ 203 * p .left
 
   pub calls-run : {list : List ℕ} {b b′ : Bench} {p p′ : Progress} {hops hops′ : List Hop} {book book′ out out′ : List ℕ} {cs : List Call} (ns : List ℕ)
       → CallsFrom list b p hops book out b′ p′ hops′ book′ out′ → At P planned tail rest cs b hops book → p .left ≤ length list / 6
@@ -217,6 +247,7 @@ module _ (P : Plan) (planned : Planned P) (tail : List Hop) (rest : List ℕ) (e
         is = ap (λ (qs : List Request). runFrom P qs (replied ns (after P cs))) (few size l short) ∙ ap (λ (z : List ℕ). replied z (after P cs)) (sym (append-nil ns));
         state = at₀;
         puts = written-none (p .at) out;
+        small = zero-le;
       }
   calls-run {list} {p = p} {cs = cs} ns (next {r = r} goes ran put later) at₀ bound =
       let some : 0 < p .left = by-cases (ℕ-discrete (p .left) 0) (λ e. absurd (going-some p goes e)) (λ n. omega (arith, n)) in
@@ -236,4 +267,5 @@ module _ (P : Plan) (planned : Planned P) (tail : List Hop) (rest : List ℕ) (e
             ∙ F .is ∙ ap (λ (z : List ℕ). replied z (after P (F .calls))) (append-assoc ns (S .numbers) (F .numbers));
         state = F .state;
         puts = written-append (S .puts) (F .puts);
+        small = let one = S .small in let more = F .small in omega (arith, length-append (S .numbers) (F .numbers), one, more, on, some);
       }

@@ -35,7 +35,7 @@ module _ {A : Type 0} (k n : ℕ) (y tail l : List A) (is : l ≡ y ++ tail) (si
       sym (take-append-le k (take n l) (drop n l) whole) ∙ ap (take k) (take-append-drop n l ∙ is) ∙ take-at y tail k size
 
   -- what was lent got x at its start
-  replaced : (x left : List A) → k ≤ length (take n l) → left ≡ x ++ drop k (take n l) → left ++ drop n l ≡ x ++ tail
+  pub replaced : (x left : List A) → k ≤ length (take n l) → left ≡ x ++ drop k (take n l) → left ++ drop n l ≡ x ++ tail
   replaced x left whole e =
       ap (λ (z : List A). z ++ drop n l) e ∙ append-assoc x (drop k (take n l)) (drop n l)
       ∙ ap (λ (z : List A). x ++ z)

@@ -134,6 +134,21 @@ pub record Given : Type 0 where
   pub bench : List ℕ
   pub replies : List ℕ
 
+abbrev pub given : (units count : ℕ) (groups parents : List ℕ) (fresh-hops fresh-book : ℕ) (calls book hops bench replies : List ℕ) → Given
+given units count groups parents fresh-hops fresh-book calls book hops bench replies = record {
+  units = units;
+  count = count;
+  groups = groups;
+  parents = parents;
+  fresh-hops = fresh-hops;
+  fresh-book = fresh-book;
+  calls = calls;
+  book = book;
+  hops = hops;
+  bench = bench;
+  replies = replies;
+}
+
 unfoldable pub requests : Given → List Request
 requests g = requestsOf (length (g .book)) (g .calls)
 

@@ -1,10 +1,10 @@
 -- What the functions below `run` say of their results: each is a step of the code. Nothing here need be believed. Definitions only.
 use Prim.Native.Nat.{ℕ, _*_, _-_, _/_, _%_, min}
 use mathlib.Core.Path.{_≡_}
-use mathlib.Core.Bool.{Bool, true, false, not}
+use mathlib.Core.Bool.{Bool, true, false, not, _||_}
 use mathlib.Core.List.{List, [], _∷_, _++_}
 use lib.ListN.{length, getD, take, drop, replicate}
-use lib.Dec.{eqb}
+use lib.Dec.{ltb, eqb}
 use Rattle.text.specs.Writing.{Written}
 use Rattle.tables.specs.Values.{rowOf}
 use Rattle.tables.specs.declared.messages.Messages.{Messages}
@@ -157,3 +157,11 @@ pub record ListRun (units count : ℕ) (groups parents : List ℕ) (fresh-hops f
       r hops-left book-left left
   pub place : ℕ
   pub puts : Written (hopNumbers hops-left) 0 records place records-left
+
+-- ---- the whole call
+
+unfoldable pub listsShort : (hops bench replies calls : ℕ) → Bool
+listsShort hops bench replies calls = ltb hops 10040 || ltb bench 2684 || ltb replies (203 * calls)
+
+unfoldable pub lentShort : (hops numbers book : ℕ) → Bool
+lentShort hops numbers book = ltb (min hops 2008) 2000 || ltb (min numbers book) 6400

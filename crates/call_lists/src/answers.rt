@@ -2,6 +2,7 @@
 use forest::Verdict;
 ghost use Rattle.forest.specs.Calls.{refusal as refusalOf};
 ghost use mathlib.Core.Path.{_≡_};
+ghost use mathlib.Core.List.{[], _∷_};
 ghost use Rattle.call_lists.specs.Answers.{numbersOf, refusedFor};
 
 // 0 or the number of a refusal, and two numbers more.
@@ -9,6 +10,16 @@ pub struct Answer {
     pub refusal: u64,
     pub first: u64,
     pub second: u64,
+}
+
+pub fn told(refusal: u64, first: usize, second: usize) -> Answer
+    ensures { λ r. ⌜ numbersOf r ≡ refusal ∷ first ∷ second ∷ [] ⌝ }
+{
+    Answer {
+        refusal,
+        first: first as u64,
+        second: second as u64,
+    }
 }
 
 // What a forest is refused for; three zeros for an accepted one.

@@ -120,28 +120,28 @@ pub record Next (P : Plan) (past : List Answered) (b : Bench) (hops hops′ : Li
   pub book-length : length book′ ≡ length book
 
 -- a send leaves the logs
-send-book : (P : Plan) (s g w : ℕ) (W : Network) → logBook (leftOf (send P s g w W)) ≡ logBook W
+pub send-book : (P : Plan) (s g w : ℕ) (W : Network) → logBook (leftOf (send P s g w W)) ≡ logBook W
 unfolding send refused leftOf logBook logOf
 send-book P s g w (network ms hs ls) =
     let Q : Outcome → Type 0 = λ o. logBook (leftOf o) ≡ logBook (network ms hs ls) in
     refuse-either Q _ _ _ (λ t. refl) (λ t. refuse-either Q _ _ _ (λ t. refl) (λ t.
     refuse-either Q _ _ _ (λ t. refl) (λ t. refuse-either Q _ _ _ (λ t. refl) (λ t. refl))))
 
-send-call : (P : Plan) (s g w n : ℕ) (W : Network) → 2000 ≤ n → call P (Send s g w n) W ≡ send P s g w W
+pub send-call : (P : Plan) (s g w n : ℕ) (W : Network) → 2000 ≤ n → call P (Send s g w n) W ≡ send P s g w W
 unfolding call refuse
 send-call P s g w n W b = ap (λ (t : Bool). refuse t (refused 1 W) (send P s g w W)) (le-ltb n 2000 b)
 
-arrive-call : (P : Plan) (j n m : ℕ) (W : Network) → 2000 ≤ n → 6400 ≤ m → call P (Arrive j n m) W ≡ arrive P j W
+pub arrive-call : (P : Plan) (j n m : ℕ) (W : Network) → 2000 ≤ n → 6400 ≤ m → call P (Arrive j n m) W ≡ arrive P j W
 unfolding call refuse
 arrive-call P j n m W b d =
     ap (λ (t : Bool). refuse (t || ltb m 6400) (refused 1 W) (arrive P j W)) (le-ltb n 2000 b)
     ∙ ap (λ (t : Bool). refuse t (refused 1 W) (arrive P j W)) (le-ltb m 6400 d)
 
-send-short : (P : Plan) (s g w n : ℕ) (W : Network) → n < 2000 → call P (Send s g w n) W ≡ refused 1 W
+pub send-short : (P : Plan) (s g w n : ℕ) (W : Network) → n < 2000 → call P (Send s g w n) W ≡ refused 1 W
 unfolding call refuse
 send-short P s g w n W b = ap (λ (t : Bool). refuse t (refused 1 W) (send P s g w W)) (lt-ltb n 2000 b)
 
-arrive-short : (P : Plan) (j n m : ℕ) (W : Network) → (n < 2000) ⊎ (m < 6400) → call P (Arrive j n m) W ≡ refused 1 W
+pub arrive-short : (P : Plan) (j n m : ℕ) (W : Network) → (n < 2000) ⊎ (m < 6400) → call P (Arrive j n m) W ≡ refused 1 W
 unfolding call refuse
 arrive-short P j n m W b = ap (λ (t : Bool). refuse t (refused 1 W) (arrive P j W)) (⊎-elim
     (λ h. or-left (ltb n 2000) (ltb m 6400) (lt-ltb n 2000 h))

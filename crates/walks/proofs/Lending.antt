@@ -63,7 +63,7 @@ module _ (R : RattleType) (L : Loan) where
   Views ys = fsep (ShrSlice (L .mark) (L .during) R .own (at-list (L .tag) ys) words) (flft (L .during) (L .portion))
 
   -- the machine value is the list's, and the count fits
-  abbrev Lies : List (R .Denot) → Fml
+  abbrev pub Lies : List (R .Denot) → Fml
   Lies ys = at-slice R (at-list (L .tag) ys) words
 
   -- the share s of all the elements
@@ -71,7 +71,7 @@ module _ (R : RattleType) (L : Loan) where
   Part ys s = arr-parts (shares R) (length ys) .part s ys (L .block) (L .byte)
 
   -- what the holder has left of its own borrow while the elements are away
-  abbrev Opened : List (R .Denot) → Fml
+  abbrev pub Opened : List (R .Denot) → Fml
   Opened ys = fsep (Lies ys) (fsep (fobor (L .during) (L .portion) (Held R (length ys) (L .block) (L .byte) (L .tag)))
       (fsep (fobs (L .tag) (codedHoleys R .code (heres R ys))) (fauth (L .tag) (codedHoleys R .code (heres R ys)))))
 

@@ -8,3 +8,4 @@ pub mod Walks
 pub mod Branches
 pub mod ByRule
 pub mod Arrays
+pub mod Fronts

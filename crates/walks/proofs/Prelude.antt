@@ -41,3 +41,4 @@ pub use Rattle.walks.proofs.Locals.{var, ptr-of, len-of, base-of, slice
 pub use Rattle.walks.proofs.Walks.{Holding, empty, holds, full, envAt, stack, Blocks, leaves}
 pub use Rattle.walks.proofs.Branches.{if-then, while-test, Turned}
 pub use Rattle.walks.proofs.Arrays.{repeated, repeats, array-loan, lends-array, array-back}
+pub use Rattle.walks.proofs.Fronts.{front-loan, FrontOut, lends-front, front-back}

@@ -1,0 +1,92 @@
+// The calls of include/scrollcairn.h, for C and C++. Each is equated to the rules by a promise (specs/Exported.antt).
+mod answers;
+mod contents;
+
+ghost use Rattle.scrollcairn_c.specs.Exported.{RunExported, BuildExported, CheckExported, ReadExported, WriteExported};
+
+// Runs a bench file.
+#[no_mangle]
+pub extern "C" fn scrollcairn_run(file: &[u8], out: &mut [u8], answer: &mut [u64; 3])
+    ensures { λ _. ⌜ RunExported (now (file .entry)) (now (out .entry)) (now (out .exit)) (now (answer .exit)) ⌝ }
+{
+    let ran = runner::run(file, out);
+    answers::put(answers::of_run(ran), answer);
+}
+
+// Lays out a forest.
+#[no_mangle]
+pub extern "C" fn scrollcairn_build(
+    units: usize,
+    groups: &[u32; 24],
+    count: usize,
+    parents: &mut [u8; 32],
+    answer: &mut [u64; 3],
+)
+    ensures { λ _. ⌜ BuildExported units (now (groups .entry)) count (now (parents .entry)) (now (parents .exit)) (now (answer .exit)) ⌝ }
+{
+    let table = *groups;
+    let built = forest::build(units, table, count);
+    answers::put_forest(built, parents, answer);
+}
+
+// Checks a drawn forest.
+#[no_mangle]
+pub extern "C" fn scrollcairn_check(
+    units: usize,
+    groups: &[u32; 24],
+    count: usize,
+    drawn: &[u8; 32],
+    parents: &mut [u8; 32],
+    answer: &mut [u64; 3],
+)
+    ensures { λ _. ⌜ CheckExported units (now (groups .entry)) count (now (drawn .entry)) (now (parents .entry)) (now (parents .exit))
+        (now (answer .exit)) ⌝ }
+{
+    let table = *groups;
+    let drawing = *drawn;
+    let checked = forest::check(units, table, count, drawing);
+    answers::put_forest(checked, parents, answer);
+}
+
+// Reads a bench file.
+#[no_mangle]
+pub extern "C" fn scrollcairn_read(
+    file: &[u8],
+    events: &mut [u16],
+    groups: &mut [u32; 24],
+    parents: &mut [u8; 32],
+    counts: &mut [u16; 4],
+    answer: &mut [u64; 3],
+)
+    ensures { λ _. ⌜ ReadExported (now (file .entry)) (now (events .entry)) (now (groups .entry)) (now (parents .entry)) (now (counts .entry))
+        (now (events .exit)) (now (groups .exit)) (now (parents .exit)) (now (counts .exit)) (now (answer .exit)) ⌝ }
+{
+    let read = benchfile::read(file, events);
+    let reply = read.reply;
+    let content = read.content;
+    let told = answers::of_read(reply);
+    if told.refusal != 0 {
+        answers::put(told, answer);
+        return;
+    }
+    contents::put(content, groups, parents, counts);
+    answers::put(told, answer);
+}
+
+// Writes a bench file.
+#[no_mangle]
+pub extern "C" fn scrollcairn_write(
+    groups: &[u32; 24],
+    parents: &[u8; 32],
+    counts: &[u16; 4],
+    events: &[u16],
+    out: &mut [u8],
+    answer: &mut [u64; 3],
+)
+    ensures { λ _. ⌜ WriteExported (now (groups .entry)) (now (parents .entry)) (now (counts .entry)) (now (events .entry)) (now (out .entry))
+        (now (out .exit)) (now (answer .exit)) ⌝ }
+{
+    let content = contents::of(*groups, *parents, *counts);
+    let written = benchfile::write(content, events, out);
+    answers::put(answers::of_write(written), answer);
+}

@@ -12,7 +12,9 @@ use Rattle.benchfile.specs.Calls.{Answer as Reply, TurnedAway, ReadNumbers, Wro
 use Rattle.benchfile.specs.Calls.{written, writeShort, writeSays, writeLeaves}
 use Rattle.benchfile.specs.declared.Content.{Content}
 use Rattle.runner.specs.Printed.{printed, result, takenBy, outputShort}
-use Rattle.call_lists.specs.Answers.{refusedFor, unlessRefused}
+use Rattle.call_lists.specs.Answers.{numbersOf, refusedFor, unlessRefused}
+use Rattle.call_lists.specs.declared.answers.Answer.{Answer}
+use Rattle.call_lists.specs.Rules.{Given, CallsPromise}
 
 -- the three numbers of an answer: a refusal; what was read; or what was written, and a third number
 unfoldable pub toldBy : Reply → ℕ → List ℕ
@@ -70,3 +72,11 @@ contentFrom groups parents counts = record {
 pub record WriteExported (groups parents counts events out left answer : List ℕ) : Type 0 where
   pub answers : answer ≡ toldBy (writeSays (writeShort events out) (written (contentFrom groups parents counts) events)) 0
   pub leaves : left ≡ writeLeaves (writeShort events out) (written (contentFrom groups parents counts) events) out
+
+-- ---- calls
+
+-- the three numbers are those of the answer that the rules of a list of calls promise
+pub record CallsExported (g : Given) (book hops bench replies answer : List ℕ) : Type 0 where
+  pub told : Answer
+  pub promise : CallsPromise g told book hops bench replies
+  pub answers : answer ≡ numbersOf told

@@ -2,7 +2,8 @@
 mod answers;
 mod contents;
 
-ghost use Rattle.scrollcairn_c.specs.Exported.{RunExported, BuildExported, CheckExported, ReadExported, WriteExported};
+ghost use Rattle.call_lists.specs.Rules.{given};
+ghost use Rattle.scrollcairn_c.specs.Exported.{RunExported, BuildExported, CheckExported, ReadExported, WriteExported, CallsExported};
 
 // Runs a bench file.
 #[no_mangle]
@@ -89,4 +90,30 @@ pub extern "C" fn scrollcairn_write(
     let content = contents::of(*groups, *parents, *counts);
     let written = benchfile::write(content, events, out);
     answers::put(answers::of_write(written), answer);
+}
+
+// Runs a list of calls on a fresh bench.
+#[no_mangle]
+pub extern "C" fn scrollcairn_calls(
+    units: usize,
+    groups: &[u32; 24],
+    count: usize,
+    parents: &[u8; 32],
+    fresh_hops: usize,
+    fresh_book: usize,
+    calls: &[u16],
+    book: &mut [u16],
+    hops: &mut [u16],
+    bench: &mut [u16],
+    replies: &mut [u16],
+    answer: &mut [u64; 3],
+)
+    ensures { λ _. ⌜ CallsExported (given units count (now (groups .entry)) (now (parents .entry)) «fresh_hops» «fresh_book» (now (calls .entry))
+        (now (book .entry)) (now (hops .entry)) (now (bench .entry)) (now (replies .entry)))
+        (now (book .exit)) (now (hops .exit)) (now (bench .exit)) (now (replies .exit)) (now (answer .exit)) ⌝ }
+{
+    let told = call_lists::run(
+        units, *groups, count, *parents, fresh_hops, fresh_book, calls, book, hops, bench, replies,
+    );
+    answers::put(told, answer);
 }

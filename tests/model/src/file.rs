@@ -1,0 +1,229 @@
+//! "The bench file": reading and writing. "In a file the first bad line decides, and in it the lowest number."
+
+use crate::{Refusal, EVENTS, EVENT_NUMBERS, FILE, GROUPS, ROOT, UNITS};
+
+/// What a file says beside its events. Places of groups that do not count are 0; parents are 255 for roots, past the units, and where the file says `build`.
+#[derive(Clone, Debug, PartialEq, Eq)]
+pub struct Content {
+    pub units: usize,
+    pub groups: [u32; GROUPS],
+    pub count: usize,
+    pub build: bool,
+    pub parents: [u8; UNITS],
+    pub events: usize,
+}
+
+impl Content {
+    /// The line of `parents=`.
+    pub fn parents_line(&self) -> u16 {
+        3 + self.count as u16
+    }
+}
+
+/// "send is source+1, group, word; arrive is 0, hop, 0"
+pub type Event = [u16; 3];
+
+/// Reads a file into a content and a lent event list. Refusals 1 to 9; a refused file leaves the list as it was.
+pub fn read(file: &[u8], list: &mut [u16]) -> Result<Content, Refusal> {
+    if list.len() < EVENT_NUMBERS {
+        return Err(Refusal::plain(1));
+    }
+    if file.len() > FILE {
+        return Err(Refusal::plain(2));
+    }
+    let (content, events) = read_lines(file)?;
+    for (at, event) in events.iter().enumerate() {
+        list[3 * at..3 * at + 3].copy_from_slice(event);
+    }
+    Ok(content)
+}
+
+/// The lines, by their places.
+fn read_lines(file: &[u8]) -> Result<(Content, Vec<Event>), Refusal> {
+    let mut lines = Lines::new(file);
+    let units = lines.read(units_line)?;
+    let count = lines.read(groups_line)?;
+    let mut groups = [0; GROUPS];
+    for group in groups.iter_mut().take(count) {
+        *group = lines.read(|line| group_line(line, units))?;
+    }
+    let drawn = lines.read(|line| parents_line(line, units))?;
+    let mut events = Vec::new();
+    while !lines.at_end() {
+        events.push(lines.read(|line| event_line(line, events.len()))?);
+    }
+    let content = Content {
+        units,
+        groups,
+        count,
+        build: drawn.is_none(),
+        parents: drawn.unwrap_or([ROOT; UNITS]),
+        events: events.len(),
+    };
+    Ok((content, events))
+}
+
+/// The lines of a file, one after the other. Lines count from 1.
+struct Lines<'a> {
+    rest: &'a [u8],
+    number: u16,
+}
+
+impl<'a> Lines<'a> {
+    fn new(file: &'a [u8]) -> Lines<'a> {
+        Lines { rest: file, number: 0 }
+    }
+
+    fn at_end(&self) -> bool {
+        self.rest.is_empty()
+    }
+
+    /// The next line, by the rule of its place. A line that is missing or lacks its LF is 3.
+    fn read<T>(&mut self, rule: impl Fn(&[u8]) -> Result<T, u16>) -> Result<T, Refusal> {
+        self.number += 1;
+        let value = self.number;
+        let refuse = |number| Refusal { number, value };
+        let Some(end) = self.rest.iter().position(|&byte| byte == b'\n') else {
+            return Err(refuse(3));
+        };
+        let line = &self.rest[..end];
+        self.rest = &self.rest[end + 1..];
+        rule(line).map_err(refuse)
+    }
+}
+
+/// `units=`: 3, 4, 5.
+fn units_line(line: &[u8]) -> Result<usize, u16> {
+    let value = after_key(line, b"units=").ok_or(3u16)?;
+    let units = decimal(value).ok_or(4u16)? as usize;
+    match units == 0 || units > UNITS {
+        true => Err(5),
+        false => Ok(units),
+    }
+}
+
+/// `groups=`: 3, 4, 5.
+fn groups_line(line: &[u8]) -> Result<usize, u16> {
+    let value = after_key(line, b"groups=").ok_or(3u16)?;
+    let groups = decimal(value).ok_or(4u16)? as usize;
+    match groups > GROUPS {
+        true => Err(5),
+        false => Ok(groups),
+    }
+}
+
+/// `group=`, "members rising, commas between": 3, 4, 6, 7.
+fn group_line(line: &[u8], units: usize) -> Result<u32, u16> {
+    let value = after_key(line, b"group=").ok_or(3u16)?;
+    let members = entries(value, decimal).ok_or(4u16)?;
+    if members.iter().any(|&member| member as usize >= units) {
+        return Err(6);
+    }
+    if members.windows(2).any(|pair| pair[0] >= pair[1]) {
+        return Err(7);
+    }
+    Ok(members.iter().map(|&member| 1 << member).sum())
+}
+
+/// `parents=`: "the word `build`, or for each unit in order its parent's number or `-` for a root". 3, 4, 6, 8. None for `build`.
+fn parents_line(line: &[u8], units: usize) -> Result<Option<[u8; UNITS]>, u16> {
+    let value = after_key(line, b"parents=").ok_or(3u16)?;
+    if value == b"build" {
+        return Ok(None);
+    }
+    let entry = |text: &[u8]| match text {
+        b"-" => Some(None),
+        number => decimal(number).map(Some),
+    };
+    let drawn = entries(value, entry).ok_or(4u16)?;
+    if drawn.iter().flatten().any(|&parent| parent as usize >= units) {
+        return Err(6);
+    }
+    if drawn.len() != units {
+        return Err(8);
+    }
+    let mut parents = [ROOT; UNITS];
+    for (unit, parent) in drawn.iter().enumerate() {
+        parents[unit] = parent.map_or(ROOT, |parent| parent as u8);
+    }
+    Ok(Some(parents))
+}
+
+/// `send=source,group,word` or `arrive=hop`, after so many events: 3, 4, 9.
+fn event_line(line: &[u8], events_before: usize) -> Result<Event, u16> {
+    let event = match (after_key(line, b"send="), after_key(line, b"arrive=")) {
+        (Some(value), _) => send_event(value).ok_or(4u16)?,
+        (_, Some(value)) => [0, decimal(value).ok_or(4u16)?, 0],
+        _ => return Err(3),
+    };
+    match events_before >= EVENTS {
+        true => Err(9),
+        false => Ok(event),
+    }
+}
+
+/// "Source 65,535 is therefore refused as badly written."
+fn send_event(value: &[u8]) -> Option<Event> {
+    let numbers = entries(value, decimal)?;
+    match numbers[..] {
+        [source, group, word] if source < 65_535 => Some([source + 1, group, word]),
+        _ => None,
+    }
+}
+
+/// The bytes after a key.
+fn after_key<'a>(line: &'a [u8], key: &[u8]) -> Option<&'a [u8]> {
+    line.strip_prefix(key)
+}
+
+/// The entries of a list with commas between; none where some entry is badly written.
+fn entries<T>(value: &[u8], entry: impl Fn(&[u8]) -> Option<T>) -> Option<Vec<T>> {
+    value.split(|&byte| byte == b',').map(entry).collect()
+}
+
+/// "A decimal number here has no leading zero (zero is `0`) and is at most 65,535."
+fn decimal(text: &[u8]) -> Option<u16> {
+    if text.is_empty() || !text.iter().all(u8::is_ascii_digit) {
+        return None;
+    }
+    if text.len() > 1 && text[0] == b'0' {
+        return None;
+    }
+    std::str::from_utf8(text).ok()?.parse::<u16>().ok()
+}
+
+/// "The writer gives back the same lines from what was read, at the start of a lent list of 32,768 bytes, and answers how many bytes." Refusal 1.
+pub fn write(content: &Content, list: &[u16], out: &mut [u8]) -> Result<usize, Refusal> {
+    if list.len() < EVENT_NUMBERS || out.len() < FILE {
+        return Err(Refusal::plain(1));
+    }
+    let text = lines_of(content, list);
+    out[..text.len()].copy_from_slice(text.as_bytes());
+    Ok(text.len())
+}
+
+/// The lines of a content and its events.
+pub fn lines_of(content: &Content, list: &[u16]) -> String {
+    let mut text = format!("units={}\ngroups={}\n", content.units, content.count);
+    for group in &content.groups[..content.count] {
+        let members = (0..UNITS).filter(|unit| group >> unit & 1 == 1);
+        let members: Vec<String> = members.map(|unit| unit.to_string()).collect();
+        text += &format!("group={}\n", members.join(","));
+    }
+    let entry = |&parent: &u8| match parent {
+        ROOT => "-".to_string(),
+        number => number.to_string(),
+    };
+    let drawn: Vec<String> = content.parents[..content.units].iter().map(entry).collect();
+    match content.build {
+        true => text += "parents=build\n",
+        false => text += &format!("parents={}\n", drawn.join(",")),
+    }
+    for event in list[..3 * content.events].chunks(3) {
+        match event[0] {
+            0 => text += &format!("arrive={}\n", event[1]),
+            source => text += &format!("send={},{},{}\n", source - 1, event[1], event[2]),
+        }
+    }
+    text
+}

@@ -118,8 +118,15 @@ unfolding benchNumbers
 bench-length P W L =
     let few = L .messages in
     let pairs : (f : ℕ → ℕ → ℕ) → length (joined 32 (λ s. tabulate 32 (f s))) ≡ 1024 = λ f. joined-length 32 32 (λ s. tabulate 32 (f s)) (λ s. length-tabulate 32 (f s)) in
-    simp length-append (omega (arith, length-tabulate 32 (λ u. length (logOf u W)), pad (λ x. x .source) (messagesOf W) few, pad (λ x. x .group) (messagesOf W) few,
-    pad (λ x. x .word) (messagesOf W) few, pairs (λ s r. pairCount s r (hopsOf W)), pairs (λ s r. pairTaken s r (hopsOf W))))
+    simp length-append (omega (
+      arith,
+      length-tabulate 32 (λ u. length (logOf u W)),
+      pad (λ x. x .source) (messagesOf W) few,
+      pad (λ x. x .group) (messagesOf W) few,
+      pad (λ x. x .word) (messagesOf W) few,
+      pairs (λ s r. pairCount s r (hopsOf W)),
+      pairs (λ s r. pairTaken s r (hopsOf W)),
+    ))
 
 last-nines : drop 2000 allNines ≡ replicate 8 nines
 last-nines = refl

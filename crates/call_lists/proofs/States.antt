@@ -96,15 +96,19 @@ module _ (P : Plan) (planned : Planned P) where
           let W = after P cs in
           by-cases (decLt (length (take n hops)) 2000)
           (λ short. let x = promise .short short in
-          let e = ap (λ (z : Call). call P z W) same ∙ send-short P s g w (length (take n hops)) W short in
-          (x .0 ∙ sym (ap answerOf e), goes-on cs c (refused 1 W) e (x .1 ∙ at .bench)
-          (kept 2000 n (hopRecords W) tail hops (at .hops-are) (hops-size cs) left (x .2)) (at .book-is)))
+          let e = ap (λ (z : Call). call P z W) same ∙ send-short P s g w (length (take n hops)) W short in (
+            x .0 ∙ sym (ap answerOf e),
+            goes-on cs c (refused 1 W) e (x .1 ∙ at .bench)
+                (kept 2000 n (hopRecords W) tail hops (at .hops-are) (hops-size cs) left (x .2)) (at .book-is),
+          ))
           (λ long. let whole : 2000 ≤ length (take n hops) = omega (arith, long) in
           let x = promise .rule P planned cs (at .bench) (of-hops n whole) in
-          let e = ap (λ (z : Call). call P z W) same ∙ send-call P s g w (length (take n hops)) W whole in
-          (x .answer ∙ sym (ap answerOf e), goes-on cs c (send P s g w W) e (x .bench)
-          (replaced 2000 n (hopRecords W) tail hops (at .hops-are) (hops-size cs) (hopRecords (leftOf (send P s g w W))) left whole (x .records))
-          (at .book-is ∙ ap (λ (z : List ℕ). z ++ rest) (sym (send-book P s g w W)))))
+          let e = ap (λ (z : Call). call P z W) same ∙ send-call P s g w (length (take n hops)) W whole in (
+            x .answer ∙ sym (ap answerOf e),
+            goes-on cs c (send P s g w W) e (x .bench)
+                (replaced 2000 n (hopRecords W) tail hops (at .hops-are) (hops-size cs) (hopRecords (leftOf (send P s g w W))) left whole (x .records))
+                (at .book-is ∙ ap (λ (z : List ℕ). z ++ rest) (sym (send-book P s g w W))),
+          ))
 
       pub arrived-at : {r : Arrived} {left : List Hop} {book-left : List ℕ} (j n m : ℕ) → ArrivePromise b j (take n hops) (take m book) r left book-left
           → (c : Call) → c ≡ Arrive j (length (take n hops)) (length (take m book))
@@ -115,18 +119,22 @@ module _ (P : Plan) (planned : Planned P) where
           let turned : ((length (take n hops) < 2000) ⊎ (length (take m book) < 6400))
           → (arriveAnswer (r .reply) ≡ answerOf (call P c W)) × At tail rest (cs ++ c ∷ []) (r .bench) (left ++ drop n hops) (book-left ++ drop m book) = λ short.
           let x = promise .short short in
-          let e = ap (λ (z : Call). call P z W) same ∙ arrive-short P j (length (take n hops)) (length (take m book)) W short in
-          (x .0 ∙ sym (ap answerOf e), goes-on cs c (refused 1 W) e (x .1 ∙ at .bench)
-          (kept 2000 n (hopRecords W) tail hops (at .hops-are) (hops-size cs) left (x .2)) (kept 6400 m (logBook W) rest book (at .book-is) (book-size cs) book-left (x .3))) in
+          let e = ap (λ (z : Call). call P z W) same ∙ arrive-short P j (length (take n hops)) (length (take m book)) W short in (
+            x .0 ∙ sym (ap answerOf e),
+            goes-on cs c (refused 1 W) e (x .1 ∙ at .bench)
+                (kept 2000 n (hopRecords W) tail hops (at .hops-are) (hops-size cs) left (x .2)) (kept 6400 m (logBook W) rest book (at .book-is) (book-size cs) book-left (x .3)),
+          ) in
           by-cases (decLt (length (take n hops)) 2000) (λ short. turned (inl short)) (λ long.
           by-cases (decLt (length (take m book)) 6400) (λ short. turned (inr short)) (λ long′.
           let whole : 2000 ≤ length (take n hops) = omega (arith, long) in
           let whole′ : 6400 ≤ length (take m book) = omega (arith, long′) in
           let x = promise .rule P planned cs (at .bench) (of-hops n whole) (of-book m whole′) in
-          let e = ap (λ (z : Call). call P z W) same ∙ arrive-call P j (length (take n hops)) (length (take m book)) W whole whole′ in
-          (x .answer ∙ sym (ap answerOf e), goes-on cs c (arrive P j W) e (x .bench)
-          (replaced 2000 n (hopRecords W) tail hops (at .hops-are) (hops-size cs) (hopRecords (leftOf (arrive P j W))) left whole (x .records))
-          (replaced 6400 m (logBook W) rest book (at .book-is) (book-size cs) (logBook (leftOf (arrive P j W))) book-left whole′ (x .numbers)))))
+          let e = ap (λ (z : Call). call P z W) same ∙ arrive-call P j (length (take n hops)) (length (take m book)) W whole whole′ in (
+            x .answer ∙ sym (ap answerOf e),
+            goes-on cs c (arrive P j W) e (x .bench)
+                (replaced 2000 n (hopRecords W) tail hops (at .hops-are) (hops-size cs) (hopRecords (leftOf (arrive P j W))) left whole (x .records))
+                (replaced 6400 m (logBook W) rest book (at .book-is) (book-size cs) (logBook (leftOf (arrive P j W))) book-left whole′ (x .numbers)),
+          )))
 
       pub rested-at : {r : RestReply} (n : ℕ) → RestPromise b (take n hops) r → restAnswer r ≡ restOf (length (take n hops)) (after P cs)
       unfolding restOf refuse

@@ -115,7 +115,14 @@ pub fn run_list(
     }; 2008];
     let n = requests::least(fresh_hops, 2008);
     let m = requests::least(fresh_book, book.len());
-    let fresh = Bench::fresh(units, groups, count, parents, &mut hops[..n], &mut book[..m]);
+    let fresh = Bench::fresh(
+        units,
+        groups,
+        count,
+        parents,
+        &mut hops[..n],
+        &mut book[..m],
+    );
     let bench = bench_made(fresh);
     let end = run_calls(bench, calls, &mut hops, book, out);
     put_hops(&hops, records);

@@ -65,7 +65,16 @@ pub fn run(
     }
     let drawn = forest.parents;
     let end = benches::run_list(
-        units, groups, count, drawn, fresh_hops, fresh_book, calls, book, replies, hops,
+        units,
+        groups,
+        count,
+        drawn,
+        fresh_hops,
+        fresh_book,
+        calls,
+        book,
+        replies,
+        hops,
     );
     writing::put_bench(bench, end.bench);
     answers::told(0, number, end.numbers)

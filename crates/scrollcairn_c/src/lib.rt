@@ -113,7 +113,17 @@ pub extern "C" fn scrollcairn_calls(
         (now (book .exit)) (now (hops .exit)) (now (bench .exit)) (now (replies .exit)) (now (answer .exit)) ⌝ }
 {
     let told = call_lists::run(
-        units, *groups, count, *parents, fresh_hops, fresh_book, calls, book, hops, bench, replies,
+        units,
+        *groups,
+        count,
+        *parents,
+        fresh_hops,
+        fresh_book,
+        calls,
+        book,
+        hops,
+        bench,
+        replies,
     );
     answers::put(told, answer);
 }

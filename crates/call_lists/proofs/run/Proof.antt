@@ -22,7 +22,7 @@ of-verdict-requires : tie.Need-of-verdict-requires
 of-verdict-requires c κs = search needs
 
 returns-2 : tie.Need-returns-2
-returns-2 c = 
+returns-2 c =
     let verdict = c .before .before in
     let check = verdict .before in
     forest-refused _ (verdict .of-verdict .result) (sym (check .before .before .is-short .ensures) ∙ check .before .if1 .left) (check .check .result .verdict) (check .check .ensures .0)
@@ -35,7 +35,7 @@ told-requires-2 : tie.Need-told-requires-2
 told-requires-2 c κs = search needs
 
 returns-3 : tie.Need-returns-3
-returns-3 c = 
+returns-3 c =
     let test = c .before .before .before in
     let verdict = test .before .before in
     let check = verdict .before in
@@ -65,7 +65,7 @@ same-length-4 : tie.Need-same-length-4
 same-length-4 c = search needs
 
 returns-4 : tie.Need-returns-4
-returns-4 c = 
+returns-4 c =
     let ran = c .before .before .before .before .before .before .before .before .before .before .before in
     let lent = ran .before .before .before .before .before in
     let test = lent .before .before in

@@ -47,7 +47,7 @@ number-at-requires-6 c κs = search needs
 
 returns : tie.Need-returns
 unfolding requestIn requestAt
-returns c = 
+returns c =
     let less = c .before .before .before .before .before .before .before in
     let calls = less .before .before .args .calls .now in
     let n = less .less .result in

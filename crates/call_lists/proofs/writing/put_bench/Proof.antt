@@ -22,7 +22,7 @@ same-length c = search needs
 
 returns : tie.Need-returns
 unfolding benchOut
-returns c = 
+returns c =
     written-append (c .before .before .before .before .before .before .before .before .before .before .before .before .before .before .put-head .ensures) (written-append (c .before .before .before .before .before .before .before .before .before .before .put-messages .ensures) (written-append (c .before .before .before .before .before .before .put-pairs .ensures) (c .before .before .put-pairs2 .ensures)))
 
 pub put-bench-spec : {M : Type 1} → statement M

@@ -36,9 +36,11 @@ loop-less c = search needs
 loop-again : tie.Need-loop-again Inv-loop μ-loop
 loop-again c =
     let turn = c .before .before .before .before .before .before in
-    let loop = turn .before .loop in
-    (search needs, written-more _ (loop .i) (turn .loop-test .taken) (loop .inv .1)
-    (written-is (λ j. c .before .before .before .wide .ensures j ∷ []) (c .before .before .put .ensures)))
+    let loop = turn .before .loop in (
+      search needs,
+      written-more _ (loop .i) (turn .loop-test .taken) (loop .inv .1)
+          (written-is (λ j. c .before .before .before .wide .ensures j ∷ []) (c .before .before .put .ensures)),
+    )
 
 same-length : tie.Need-same-length Inv-loop μ-loop
 same-length c = written-length (c .before .loop .inv .1)

@@ -25,7 +25,7 @@ same-length c = search needs
 
 returns : tie.Need-returns
 unfolding headNumbers
-returns c = 
+returns c =
     written-append (c .before .before .before .before .before .before .before .before .before .before .before .before .before .before .before .before .before .before .put .ensures) (written-append (c .before .before .before .before .before .before .before .before .before .before .before .before .before .before .put2 .ensures) (written-append (c .before .before .before .before .before .before .before .before .before .before .put3 .ensures)
     (written-append (c .before .before .before .before .before .before .put4 .ensures) (c .before .before .put-lengths .ensures))))
 

@@ -36,7 +36,7 @@ same-length c = search needs
 
 returns : tie.Need-returns
 unfolding hopNumbers
-returns c = 
+returns c =
     let first = c .before .before .before .before .before .before .before .before .before .before .before .before .before .before .before .before .before .before .before .before in
     let second = c .before .before .before .before .before .before .before .before .before .before .before .before .before .before .before in
     let last = c .before .before in

@@ -18,7 +18,7 @@ use Rattle.relay.proofs.Bench.arrive.Symbol as arrive-def
 use Rattle.relay.proofs.Bench.arrive.Met as arrive-thm
 use Rattle.relay.proofs.Bench.rest.Symbol as rest-def
 use Rattle.relay.proofs.Bench.rest.Met as rest-thm
-use Rattle.runner.proofs.Known.{send-callee, arrive-callee, rest-shown-callee}
+use Rattle.call_lists.proofs.Known.{send-callee, arrive-callee, rest-shown-callee}
 use Rattle.call_lists.specs.declared.requests.Request.{Request}
 use Rattle.call_lists.specs.Steps.{isSend, isArrive, afterSend, afterArrive, afterRest}
 use Rattle.call_lists.proofs.Lent.{sent-lent, arrived-lent, looked-lent}

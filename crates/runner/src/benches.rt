@@ -67,5 +67,16 @@ pub fn run_bench(
         message: 0,
         state: 0,
     }; 2000];
-    run_hops(units, groups, count, parents, list, messages, rows, &mut hops, book, out)
+    run_hops(
+        units,
+        groups,
+        count,
+        parents,
+        list,
+        messages,
+        rows,
+        &mut hops,
+        book,
+        out,
+    )
 }

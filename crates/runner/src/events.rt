@@ -208,7 +208,16 @@ fn run_event(
     let totals = totals_of(p);
     let second = second(e);
     if is_send(e) {
-        let sent = in_place::send(totals, source(e), second, third(e), tables, messages, rows, hops);
+        let sent = in_place::send(
+            totals,
+            source(e),
+            second,
+            third(e),
+            tables,
+            messages,
+            rows,
+            hops,
+        );
         return after_send(p, sent);
     }
     let arrived = in_place::arrive(totals, second, tables, messages, rows, hops, book);

@@ -15,7 +15,14 @@ pub struct Totals {
 }
 
 // The log of a unit.
-fn put_unit(unit: u16, tables: &[u32], rows: &[[u16; 32]], book: &[u16], out: &mut [u8], at: usize) -> usize
+fn put_unit(
+    unit: u16,
+    tables: &[u32],
+    rows: &[[u16; 32]],
+    book: &[u16],
+    out: &mut [u8],
+    at: usize,
+) -> usize
     ensures { λ r. ⌜ Written (logLine unit (partOf (now (tables .entry)) (now (rows .entry)) (now (book .entry)) unit) ++ 10 ∷ []) at (now (out .entry)) r (now (out .exit)) ⌝ }
 {
     let log = in_place::log(unit, tables, rows, book);
@@ -50,7 +57,14 @@ fn is_rest(reply: RestReply) -> bool
 }
 
 // Prints the logs, the hops made and the rest.
-pub fn finish(p: Progress, rest: RestReply, tables: &[u32], rows: &[[u16; 32]], book: &[u16], out: &mut [u8]) -> Totals
+pub fn finish(
+    p: Progress,
+    rest: RestReply,
+    tables: &[u32],
+    rows: &[[u16; 32]],
+    book: &[u16],
+    out: &mut [u8],
+) -> Totals
     ensures { λ r. ⌜ FinishedIn p rest (now (tables .entry)) (now (rows .entry)) (now (book .entry)) (now (out .entry)) r (now (out .exit)) ⌝ }
 {
     let hops = put_logs(tables, rows, book, out, p.at);

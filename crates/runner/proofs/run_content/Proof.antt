@@ -50,9 +50,11 @@ same-length-2 c = search needs
 
 returns-2 : tie.Need-returns-2
 returns-2 c =
-    let places : length (c .before .before .before .before .before .before .before .before .before .before .before .before .before .before .before .before .before .before .before .before .args .content .groups) ≡ 24 = search (needs, c .before .before .before .before .before .before .before .before .before .before .before .before .before .before .before .before .before .before .before .before .good) in
-    content-ran (c .before .before .before .before .before .before .before .before .before .before .before .before .before .before .before .before .before .forest-of .result .verdict) (c .before .before .before .before .before .before .before .before .before .before .before .before .before .before .before .before .before .forest-of .ensures .0) (c .before .before .before .before .before .before .before .before .before .before .before .before .before .before .before .before .verdict-number .ensures)
-    (c .before .before .before .before .before .before .before .before .before .before .before .before .before .before .before .before .before .forest-of .result .parents) (c .before .before .before .before .before .before .before .before .before .before .before .before .before .before .before .if1 .left) (c .before .before .before .before .before .before .before .before .before .before .before .before .before .before .before .before .before .forest-of .ensures .1) places refl (c .before .before .before .before .before .before .run-bench .ensures .1) (c .printed .ensures)
+    let places : length (c .before .before .before .before .before .before .before .before .before .before .before .before .before .before .before .before .before .before .before .before .args .content .groups) ≡ 24 =
+    search (needs, c .before .before .before .before .before .before .before .before .before .before .before .before .before .before .before .before .before .before .before .before .good) in
+    let run = c .before .before .before .before .before .before in let test = run .before .before .before .before .before .before .before .before .before in let number = test .before in let forest = number .before in
+    content-ran (forest .forest-of .result .verdict) (forest .forest-of .ensures .0) (number .verdict-number .ensures)
+    (forest .forest-of .result .parents) (test .if1 .left) (forest .forest-of .ensures .1) places refl (run .run-bench .ensures .1) (c .printed .ensures)
 
 pub run-content-spec : {M : Type 1} → statement M
 run-content-spec =

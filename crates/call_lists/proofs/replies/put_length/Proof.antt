@@ -17,7 +17,9 @@ same-length : tie.Need-same-length
 same-length c = search needs
 
 returns : tie.Need-returns
-returns c = record { reply = c .before .before .before .before .before .log-length .result; promise = c .before .before .before .before .before .log-length .ensures; puts = written-is (c .before .before .before .of-length .ensures) (c .before .before .put-three .ensures) }
+returns c =
+    let put-three = c .before .before in let of-length = put-three .before in let log-length = of-length .before .before in
+    record { reply = log-length .log-length .result; promise = log-length .log-length .ensures; puts = written-is (of-length .of-length .ensures) (put-three .put-three .ensures) }
 
 pub put-length-spec : {M : Type 1} → statement M
 put-length-spec =

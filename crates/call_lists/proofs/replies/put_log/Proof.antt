@@ -24,7 +24,10 @@ same-length : tie.Need-same-length
 same-length c = search needs
 
 returns : tie.Need-returns
-returns c = record { part = c .before .before .before .before .before .before .before .before .before .log .result .now; promise = c .before .before .before .before .before .before .before .before .before .log .ensures .0; puts = written-append (written-is (c .before .before .before .before .before .before .before .told .ensures) (c .before .before .before .before .before .before .put-three .ensures)) (c .before .before .put-all .ensures) }
+returns c =
+    let put-all = c .before .before in let put-three = put-all .before .before .before .before in let told = put-three .before in
+    let log = told .before .before in
+    record { part = log .log .result .now; promise = log .log .ensures .0; puts = written-append (written-is (told .told .ensures) (put-three .put-three .ensures)) (put-all .put-all .ensures) }
 
 pub put-log-spec : {M : Type 1} → statement M
 put-log-spec =

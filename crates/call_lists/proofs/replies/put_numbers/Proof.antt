@@ -18,7 +18,9 @@ same-length : tie.Need-same-length
 same-length c = search needs
 
 returns : tie.Need-returns
-returns c = let lent = c .before .before .before .before .before .before .before in numbers-log (lent .book-lent .result) (lent .book-lent .ensures) (c .before .before .before .before .before .if1 .taken) (c .before .before .put-log .ensures)
+returns c =
+    let put-log = c .before .before in let test = put-log .before .before .before in let earlier = test .before in
+    let lent = earlier .before in numbers-log (lent .book-lent .result) (lent .book-lent .ensures) (test .if1 .taken) (put-log .put-log .ensures)
 
 slice-aggregate-put-length : tie.Need-slice-aggregate-put-length
 slice-aggregate-put-length c = let lent = c .before .before .before .before .before in lent-length _ _ _ (lent .book-lent .ensures)
@@ -30,7 +32,9 @@ same-length-2 : tie.Need-same-length-2
 same-length-2 c = search needs
 
 returns-2 : tie.Need-returns-2
-returns-2 c = let lent = c .before .before .before .before .before .before .before .before .before in numbers-length (lent .book-lent .result) (lent .book-lent .ensures) (c .before .before .before .before .before .if2 .taken) (c .before .before .put-length .ensures)
+returns-2 c =
+    let put-length = c .before .before in let test = put-length .before .before .before in let earlier = test .before .before .before in
+    let lent = earlier .before in numbers-length (lent .book-lent .result) (lent .book-lent .ensures) (test .if2 .taken) (put-length .put-length .ensures)
 
 put-three-requires : tie.Need-put-three-requires
 put-three-requires c κs = search needs

@@ -19,7 +19,9 @@ same-length c = search needs
 
 returns : tie.Need-returns
 unfolding threeOf
-returns c = written-append (c .before .before .before .before .before .before .before .before .before .before .put .ensures) (written-append (c .before .before .before .before .before .before .put2 .ensures) (c .before .before .put3 .ensures))
+returns c =
+    let put = c .before .before in let put-a = put .before .before .before .before in let put-b = put-a .before .before .before .before in
+    written-append (put-b .put .ensures) (written-append (put-a .put2 .ensures) (put .put3 .ensures))
 
 pub put-three-spec : {M : Type 1} → statement M
 put-three-spec =

@@ -23,7 +23,9 @@ same-length c = search needs
 returns : tie.Need-returns
 unfolding benchOut
 returns c =
-    written-append (c .before .before .before .before .before .before .before .before .before .before .before .before .before .before .put-head .ensures) (written-append (c .before .before .before .before .before .before .before .before .before .before .put-messages .ensures) (written-append (c .before .before .before .before .before .before .put-pairs .ensures) (c .before .before .put-pairs2 .ensures)))
+    let put-pairs = c .before .before in let put-pairs-a = put-pairs .before .before .before .before in
+    let put-messages = put-pairs-a .before .before .before .before in let put-head = put-messages .before .before .before .before in
+    written-append (put-head .put-head .ensures) (written-append (put-messages .put-messages .ensures) (written-append (put-pairs-a .put-pairs .ensures) (put-pairs .put-pairs2 .ensures)))
 
 pub put-bench-spec : {M : Type 1} → statement M
 put-bench-spec =

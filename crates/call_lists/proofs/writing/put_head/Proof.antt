@@ -26,8 +26,10 @@ same-length c = search needs
 returns : tie.Need-returns
 unfolding headNumbers
 returns c =
-    written-append (c .before .before .before .before .before .before .before .before .before .before .before .before .before .before .before .before .before .before .put .ensures) (written-append (c .before .before .before .before .before .before .before .before .before .before .before .before .before .before .put2 .ensures) (written-append (c .before .before .before .before .before .before .before .before .before .before .put3 .ensures)
-    (written-append (c .before .before .before .before .before .before .put4 .ensures) (c .before .before .put-lengths .ensures))))
+    let put-lengths = c .before .before in let put = put-lengths .before .before .before .before in let put-a = put .before .before .before .before in
+    let put-b = put-a .before .before .before .before in let put-c = put-b .before .before .before .before in
+    written-append (put-c .put .ensures) (written-append (put-b .put2 .ensures) (written-append (put-a .put3 .ensures)
+    (written-append (put .put4 .ensures) (put-lengths .put-lengths .ensures))))
 
 pub put-head-spec : {M : Type 1} → statement M
 put-head-spec =

@@ -37,12 +37,14 @@ same-length c = search needs
 returns : tie.Need-returns
 unfolding hopNumbers
 returns c =
-    let first = c .before .before .before .before .before .before .before .before .before .before .before .before .before .before .before .before .before .before .before .before in
-    let second = c .before .before .before .before .before .before .before .before .before .before .before .before .before .before .before in
+    let put = c .before .before .before .before .before .before .before in let put-a = put .before .before .before .before in
+    let earlier = put-a .before .before .before in let earlier-a = earlier .before .before .before .before .before in
+    let first = earlier-a .before in
+    let second = earlier .before in
     let last = c .before .before in
     let hop = first .before .before .before .before .args .hop in
     written-is (λ i. first .before .wide .ensures i ∷ second .before .wide2 .ensures i ∷ hop .sequence ∷ hop .message ∷ last .before .wide3 .ensures i ∷ [])
-    (written-append (first .put .ensures) (written-append (second .put2 .ensures) (written-append (c .before .before .before .before .before .before .before .before .before .before .before .put3 .ensures) (written-append (c .before .before .before .before .before .before .before .put4 .ensures) (last .put5 .ensures)))))
+    (written-append (first .put .ensures) (written-append (second .put2 .ensures) (written-append (put-a .put3 .ensures) (written-append (put .put4 .ensures) (last .put5 .ensures)))))
 
 pub put-hop-spec : {M : Type 1} → statement M
 put-hop-spec =

@@ -28,7 +28,10 @@ same-length c = search needs
 
 returns : tie.Need-returns
 unfolding messageNumbers
-returns c = written-append (c .before .before .before .before .before .before .before .before .before .before .before .before .put-bytes .ensures) (written-append (c .before .before .before .before .before .before .before .put-bytes2 .ensures) (c .before .before .put-all .ensures))
+returns c =
+    let put-all = c .before .before in let put-bytes = put-all .before .before .before .before .before in
+    let put-bytes-a = put-bytes .before .before .before .before .before in
+    written-append (put-bytes-a .put-bytes .ensures) (written-append (put-bytes .put-bytes2 .ensures) (put-all .put-all .ensures))
 
 pub put-messages-spec : {M : Type 1} → statement M
 put-messages-spec =

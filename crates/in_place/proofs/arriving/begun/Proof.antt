@@ -61,23 +61,28 @@ at-requires-3 c κs = search needs
 
 returns : tie.Need-returns
 unfolding passageOf received benchIn countOf rowOf madeRow takenRow isOut
-returns c = rw (
-  c .at3 .ensures,
-  c .before .less .ensures,
-  c .before .before .choose3 .ensures,
-  c .before .before .before .choose2 .ensures,
-  c .before .before .before .before .before .made-row2 .ensures,
-  c .before .before .before .before .before .before .row-at .ensures,
-  c .before .before .before .before .before .before .before .choose .ensures,
-  c .before .before .before .before .before .before .before .before .before .is-next .ensures,
-  c .before .before .before .before .before .before .before .before .before .before .at2 .ensures,
-  c .before .before .before .before .before .before .before .before .before .before .before .at .ensures,
-  c .before .before .before .before .before .before .before .before .before .before .before .before .taken-row .ensures,
-  c .before .before .before .before .before .before .before .before .before .before .before .before .before .made-row .ensures,
-  c .before .before .before .before .before .before .before .before .before .before .before .before .before .before .before .before .is-open .ensures,
-  c .before .before .before .before .before .before .before .before .before .before .before .before .before .before .before .before .before .refusal .ensures,
-  missing-row (c .before .before .before .before .before .before .before .before .before .before .before .before .before .before .before .before .before .before .args .rows .now) 64 (c .before .before .before .before .before .before .before .before .before .before .before .before .before .before .before .before .before .before .args .h .receiver),
-)
+returns c =
+    let choose = c .before .before in let choose-a = choose .before in let made-row = choose-a .before .before in let row-at = made-row .before in
+    let choose-b = row-at .before in let is-next = choose-b .before .before in let at = is-next .before in let at-a = at .before in
+    let taken-row = at-a .before in let made-row-a = taken-row .before in let is-open = made-row-a .before .before .before in
+    let refusal = is-open .before in let start = refusal .before in
+    rw (
+      c .at3 .ensures,
+      c .before .less .ensures,
+      choose .choose3 .ensures,
+      choose-a .choose2 .ensures,
+      made-row .made-row2 .ensures,
+      row-at .row-at .ensures,
+      choose-b .choose .ensures,
+      is-next .is-next .ensures,
+      at .at2 .ensures,
+      at-a .at .ensures,
+      taken-row .taken-row .ensures,
+      made-row-a .made-row .ensures,
+      is-open .is-open .ensures,
+      refusal .refusal .ensures,
+      missing-row (start .args .rows .now) 64 (start .args .h .receiver),
+    )
 
 pub begun-spec : {M : Type 1} → statement M
 begun-spec =

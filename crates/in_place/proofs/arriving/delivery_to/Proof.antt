@@ -27,7 +27,9 @@ intersection-requires c κs = search needs
 
 returns : tie.Need-returns
 unfolding deliveryIn
-returns c = rw (c .intersection .ensures, c .before .member .ensures, c .before .before .route .ensures, c .before .before .before .children .ensures, c .before .before .before .before .group .ensures, c .before .before .before .before .before .group-of .ensures)
+returns c =
+    let route = c .before .before in let children = route .before in let group = children .before in let group-of = group .before in
+    rw (c .intersection .ensures, c .before .member .ensures, route .route .ensures, children .children .ensures, group .group .ensures, group-of .group-of .ensures)
 
 pub delivery-to-spec : {M : Type 1} → statement M
 delivery-to-spec =

@@ -36,7 +36,10 @@ same-length c = search needs
 
 returns : tie.Need-returns
 unfolding updatedRows
-returns c = rw (c .before .set-row .ensures, c .before .before .before .before .set-taken .ensures, c .before .before .before .before .before .before .before .set-made .ensures, c .before .before .before .before .before .before .before .before .before .with-length .ensures, c .before .before .before .before .before .before .before .before .before .before .row-at .ensures, c .before .before .before .before .before .before .before .before .before .before .before .before .added .ensures, c .before .before .before .before .before .before .before .before .before .before .before .before .before .taken-row .ensures)
+returns c =
+    let set-taken = c .before .before .before .before in let set-made = set-taken .before .before .before in let with-length = set-made .before .before in
+    let row-at = with-length .before in let added = row-at .before .before in let taken-row = added .before in
+    rw (c .before .set-row .ensures, set-taken .set-taken .ensures, set-made .set-made .ensures, with-length .with-length .ensures, row-at .row-at .ensures, added .added .ensures, taken-row .taken-row .ensures)
 
 pub update-spec : {M : Type 1} → statement M
 update-spec =

@@ -12,7 +12,9 @@ field-at-requires : tie.Need-field-at-requires
 field-at-requires c κs = search needs
 
 returns : tie.Need-returns
-returns c = c .field-at .ensures ∙ read-in (c .before .before .before .args .messages .now) 200 200 0 0 (omega arith) ∙ ap (λ (i : ℕ). getD (take 200 (drop 200 (c .before .before .before .args .messages .now))) i 0) (let e : 0 ≡ c .before .before .before .args .m - 1 = omega (arith, c .before .if1 .taken) in e)
+returns c =
+    let start = c .before .before .before in
+    c .field-at .ensures ∙ read-in (start .args .messages .now) 200 200 0 0 (omega arith) ∙ ap (λ (i : ℕ). getD (take 200 (drop 200 (start .args .messages .now))) i 0) (let e : 0 ≡ start .args .m - 1 = omega (arith, c .before .if1 .taken) in e)
 
 returns-2 : tie.Need-returns-2
 returns-2 c = read-out (drop 200 (c .before .before .before .args .messages .now)) 200 (c .before .before .before .args .m - 1) 0 (omega (arith, c .if2 .taken))
@@ -24,8 +26,10 @@ field-at-requires-2 : tie.Need-field-at-requires-2
 field-at-requires-2 c κs = search needs
 
 returns-3 : tie.Need-returns-3
-returns-3 c = let e : 199 + c .before .before .before .before .args .m ≡ 200 + (c .before .before .before .before .args .m - 1) = omega (arith, c .before .before .if1 .left) in
-    c .field-at2 .ensures ∙ ap (λ (i : ℕ). getD (c .before .before .before .before .args .messages .now) i 0) e ∙ read-in (c .before .before .before .before .args .messages .now) 200 200 (c .before .before .before .before .args .m - 1) 0 (omega (arith, c .before .if2 .left, c .before .before .if1 .left))
+returns-3 c =
+    let test = c .before .before in let start = test .before .before in
+    let e : 199 + start .args .m ≡ 200 + (start .args .m - 1) = omega (arith, test .if1 .left) in
+    c .field-at2 .ensures ∙ ap (λ (i : ℕ). getD (start .args .messages .now) i 0) e ∙ read-in (start .args .messages .now) 200 200 (start .args .m - 1) 0 (omega (arith, c .before .if2 .left, test .if1 .left))
 
 pub group-of-spec : {M : Type 1} → statement M
 group-of-spec =

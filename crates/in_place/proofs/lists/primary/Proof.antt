@@ -19,11 +19,15 @@ cast-result c = search needs
 
 returns : tie.Need-returns
 unfolding primariesIn
-returns c = ap (λ x. x % 256) (c .number-at .ensures ∙ read-in (c .before .before .before .args .tables .now) 80 24 _ 0 (c .before .if1 .taken)) ∙ sym (List·getD-map (λ x. x % 256) (take 24 (drop 80 (c .before .before .before .args .tables .now))) _ 0)
+returns c =
+    let start = c .before .before .before in
+    ap (λ x. x % 256) (c .number-at .ensures ∙ read-in (start .args .tables .now) 80 24 _ 0 (c .before .if1 .taken)) ∙ sym (List·getD-map (λ x. x % 256) (take 24 (drop 80 (start .args .tables .now))) _ 0)
 
 returns-2 : tie.Need-returns-2
 unfolding primariesIn
-returns-2 c = ap (λ x. x % 256) (read-out (drop 80 (c .before .before .args .tables .now)) 24 _ 0 (c .if1 .left)) ∙ sym (List·getD-map (λ x. x % 256) (take 24 (drop 80 (c .before .before .args .tables .now))) _ 0)
+returns-2 c =
+    let start = c .before .before in
+    ap (λ x. x % 256) (read-out (drop 80 (start .args .tables .now)) 24 _ 0 (c .if1 .left)) ∙ sym (List·getD-map (λ x. x % 256) (take 24 (drop 80 (start .args .tables .now))) _ 0)
 
 pub primary-spec : {M : Type 1} → statement M
 primary-spec = tie.close (tie.spec add-number-at number-at-requires cast-result returns returns-2)

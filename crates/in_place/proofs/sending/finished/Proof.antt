@@ -27,8 +27,11 @@ same-length-2 c = search needs
 
 returns : tie.Need-returns
 unfolding sentIn totalsOf sentResult sentBench sentReply recordedBench recorded sizeAt recordedTotals sendMessages sendRows benchIn topologyIn messagesIn
-returns c = let none = eq-eqb _ _ (c .before .before .before .before .before .before .before .before .if1 .taken) in
-    (rw (c .recorded .ensures, c .before .before .before .before .before .before .before .before .before .reply .ensures, none), rw (c .before .before .before .before .before .before .record-message .ensures, none), rw (c .before .before .count-hop .ensures, none))
+returns c =
+    let count-hop = c .before .before in let record-message = count-hop .before .before .before .before in let test = record-message .before .before in
+    let reply = test .before in
+    let none = eq-eqb _ _ (test .if1 .taken) in
+    (rw (c .recorded .ensures, reply .reply .ensures, none), rw (record-message .record-message .ensures, none), rw (count-hop .count-hop .ensures, none))
 
 returns-2 : tie.Need-returns-2
 unfolding sentIn totalsOf sentResult sentBench sentReply recordedBench recorded sizeAt recordedTotals sendMessages sendRows benchIn topologyIn messagesIn

@@ -29,7 +29,9 @@ plus-requires-2 c κs = search needs
 
 returns : tie.Need-returns
 unfolding firstHop countOf rowOf benchIn topologyIn messagesIn madeRow
-returns c = rw (c .plus2 .ensures, c .before .plus .ensures, c .before .before .byte .ensures, c .before .before .before .at .ensures, c .before .before .before .before .made-row .ensures, c .before .before .before .before .before .primary .ensures)
+returns c =
+    let byte = c .before .before in let at = byte .before in let made-row = at .before in let primary = made-row .before in
+    rw (c .plus2 .ensures, c .before .plus .ensures, byte .byte .ensures, at .at .ensures, made-row .made-row .ensures, primary .primary .ensures)
 
 pub first-hop-spec : {M : Type 1} → statement M
 first-hop-spec =

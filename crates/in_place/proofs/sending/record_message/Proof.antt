@@ -40,7 +40,10 @@ same-length c = search needs
 
 returns : tie.Need-returns
 unfolding recordedMessages
-returns c = rw (c .before .before .set-field3 .ensures, c .before .before .before .before .before .before .set-field2 .ensures, c .before .before .before .before .before .before .before .byte2 .ensures, c .before .before .before .before .before .before .before .before .before .before .before .set-field .ensures, c .before .before .before .before .before .before .before .before .before .before .before .before .byte .ensures, lt-ltb _ _ (c .before .before .before .before .before .before .before .before .before .before .before .before .before .before .if1 .taken))
+returns c =
+    let set-field = c .before .before in let set-field-a = set-field .before .before .before .before in let byte = set-field-a .before in
+    let set-field-b = byte .before .before .before .before in let byte-a = set-field-b .before in let test = byte-a .before .before in
+    rw (set-field .set-field3 .ensures, set-field-a .set-field2 .ensures, byte .byte2 .ensures, set-field-b .set-field .ensures, byte-a .byte .ensures, lt-ltb _ _ (test .if1 .taken))
 
 returns-2 : tie.Need-returns-2
 unfolding recordedMessages

@@ -23,7 +23,9 @@ count-requires c κs = search needs
 
 returns-3 : tie.Need-returns-3
 unfolding sendRefusal sizeAt refuse benchIn topologyIn messagesIn
-returns-3 c = rw (le-ltb _ _ (c .before .before .before .before .if1 .left), ← c .before .before .before .units .ensures, lt-leb _ _ (c .before .before .if2 .left), ← c .before .count .ensures, le-leb _ _ (c .if3 .taken))
+returns-3 c =
+    let test = c .before .before in let units = test .before in let test-a = units .before in
+    rw (le-ltb _ _ (test-a .if1 .left), ← units .units .ensures, lt-leb _ _ (test .if2 .left), ← c .before .count .ensures, le-leb _ _ (c .if3 .taken))
 
 cast-if4 : tie.Need-cast-if4
 cast-if4 c = search needs

@@ -32,7 +32,9 @@ plus-requires c κs = search needs
 
 returns-6 : tie.Need-returns-6
 unfolding sentReply refuse benchIn messagesIn
-returns-6 c = rw (c .plus .ensures, ne-eqb _ 1 (c .before .before .before .before .before .if1 .left), ne-eqb _ 12 (c .before .before .before .before .if2 .left), ne-eqb _ 13 (c .before .before .before .if3 .left), ne-eqb _ 14 (c .before .before .if4 .left), ne-eqb _ 15 (c .before .if5 .left))
+returns-6 c =
+    let test = c .before .before in let test-a = test .before in let test-b = test-a .before in let test-c = test-b .before in
+    rw (c .plus .ensures, ne-eqb _ 1 (test-c .if1 .left), ne-eqb _ 12 (test-b .if2 .left), ne-eqb _ 13 (test-a .if3 .left), ne-eqb _ 14 (test .if4 .left), ne-eqb _ 15 (c .before .if5 .left))
 
 pub reply-spec : {M : Type 1} → statement M
 reply-spec =

@@ -33,7 +33,9 @@ same-length : tie.Need-same-length Inv-loop μ-loop
 same-length c = c .before .before .loop .inv .0
 
 returns : tie.Need-returns Inv-loop μ-loop
-returns c = λ small. rw (← c .before .before .before .unit-count .ensures) (remains-none (rw (logs-end _ _ _ (c .if1 .taken)) at (c .before .before .loop .inv .1 (rw (c .before .before .before .unit-count .ensures) small))))
+returns c =
+    let loop = c .before .before in let unit-count = loop .before in
+    λ small. rw (← unit-count .unit-count .ensures) (remains-none (rw (logs-end _ _ _ (c .if1 .taken)) at (loop .loop .inv .1 (rw (unit-count .unit-count .ensures) small))))
 
 put-unit-requires : tie.Need-put-unit-requires Inv-loop μ-loop
 put-unit-requires c κs = search needs
@@ -45,10 +47,11 @@ loop-less : tie.Need-loop-less Inv-loop μ-loop
 loop-less c = search needs
 
 loop-again : tie.Need-loop-again Inv-loop μ-loop
-loop-again c = (
-  search needs,
-  λ small. remains-next (rw (logs-next _ _ _ (c .before .before .before .before .if1 .left)) at (c .before .before .before .before .before .before .loop .inv .1 small)) (c .before .before .put-unit .ensures),
-)
+loop-again c =
+    let put-unit = c .before .before in let test = put-unit .before .before in let loop = test .before .before in (
+      search needs,
+      λ small. remains-next (rw (logs-next _ _ _ (test .if1 .left)) at (loop .loop .inv .1 small)) (put-unit .put-unit .ensures),
+    )
 
 same-length-2 : tie.Need-same-length-2 Inv-loop μ-loop
 same-length-2 c = c .before .loop .inv .0

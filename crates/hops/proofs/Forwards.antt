@@ -1,8 +1,8 @@
 -- Laws of `forwarded` and `forwardedHops` as the loop uses them. What is left (f, with the list zs) leads to the same end as the start, within k more hops, where k is at least
 -- the number of children left. A hop to the lowest child leaves fewer children and takes one from k; where no child is left, the end is reached for every k.
-use mathlib.Core.Path.{_≡_, refl, sym, _∙_, subst}
+use mathlib.Core.Path.{_≡_, refl, sym, ap, _∙_, subst}
 use mathlib.Core.Bool.{not}
-use mathlib.Core.List.{List}
+use mathlib.Core.List.{List, []}
 use Prim.Native.Nat.{ℕ, zero, suc, _≤_, _<_, _^_}
 use native.Mathlib.Nat.{not-suc-le-zero}
 use native.Mathlib.Omega.{arith}
@@ -12,8 +12,8 @@ use Rattle.sets.specs.Sets.{lowest, size}
 use Rattle.sets.proofs.Bools.{cond-true, cond-false}
 use Rattle.sets.proofs.Laws.{lowest-of-some, size-excluding, size-below}
 use Rattle.model.specs.declared.Hop.{Hop}
-use Rattle.hops.specs.declared.forwarding.Forwarding.{Forwarding}
-use Rattle.hops.specs.Access.{isLeft, nextHop, afterNext, forwarded, forwardedHops}
+use Rattle.hops.specs.declared.forwarding.Outgoing.{Outgoing}
+use Rattle.hops.specs.Access.{Forwarding, withCounts, withoutCounts, isLeft, nextHop, afterNext, forwarded, forwardedHops}
 use Rattle.hops.proofs.Places.{came-true, came-false}
 
 pub record Reaches (start : Forwarding) (hs : List Hop) (k : ℕ) (f : Forwarding) (zs : List Hop) : Type 0 where
@@ -59,3 +59,21 @@ module _ {start : Forwarding} {hs : List Hop} where
         sym (cond-false (isLeft f) (forwarded k (afterNext f)) f stops) ∙ r .same,
         sym (cond-false (isLeft f) (forwardedHops k (afterNext f) (set zs (f .made) (nextHop f))) zs stops) ∙ r .same-hops,
       )
+
+-- the same where the counts are lent beside the rest
+module _ {start : Forwarding} {hs : List Hop} where
+  pub lent-turned : (k : ℕ) (o : Outgoing) (cs : List ℕ) (zs : List Hop) → o .children < 2 ^ 32 → T (isLeft (withCounts [] o)) → Reaches start hs k (withCounts cs o) zs
+      → (j : ℕ) × Reaches start hs j (withCounts (afterNext (withCounts cs o) .counts) (withoutCounts (afterNext (withCounts [] o)))) (set zs (o .made) (nextHop (withCounts cs o)))
+  unfolding withCounts withoutCounts isLeft afterNext
+  lent-turned k o cs zs fits left r = turned k (withCounts cs o) zs fits left r
+
+  pub lent-over : (k : ℕ) (o : Outgoing) (cs : List ℕ) (zs : List Hop) → T (not (isLeft (withCounts [] o))) → Reaches start hs k (withCounts cs o) zs
+      → (o .made ≡ forwarded 32 start .made) × (zs ≡ forwardedHops 32 start hs) × (cs ≡ forwarded 32 start .counts)
+  unfolding withCounts isLeft
+  lent-over k o cs zs none r =
+      let e = over k (withCounts cs o) zs none r in
+      (ap (λ (f : Forwarding). f .made) (e .0), e .1, ap (λ (f : Forwarding). f .counts) (e .0))
+
+pub lent-fewer : (o : Outgoing) → o .children < 2 ^ 32 → T (isLeft (withCounts [] o)) → size (withoutCounts (afterNext (withCounts [] o)) .children) < size (o .children)
+unfolding withCounts withoutCounts
+lent-fewer o fits left = fewer (withCounts [] o) fits left

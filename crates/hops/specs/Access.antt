@@ -8,7 +8,7 @@ use Rattle.sets.specs.Sets.{lowest, excluding}
 use Rattle.tables.specs.Values.{plus, added}
 use Rattle.model.specs.declared.Hop.{Hop}
 use Rattle.model.specs.Network.{hopAt, isPair}
-use Rattle.hops.specs.declared.forwarding.Forwarding.{Forwarding}
+use Rattle.hops.specs.declared.forwarding.Outgoing.{Outgoing}
 
 -- the first place from i on of a hop from s to r, among k places; i + k where there is none
 unfoldable pub nextOfPair : ℕ → ℕ → ℕ → ℕ → List Hop → ℕ
@@ -16,6 +16,21 @@ nextOfPair zero s r i hs = i
 nextOfPair (suc k) s r i hs = let rest = nextOfPair k s r (suc i) hs in cond (isPair s r (hopAt hs i)) i rest
 
 -- ---- passing a message on
+
+-- the hops that one copy taken makes: to `children`, those that have none yet; `made` hops were made in all, and `counts` from the sender to each unit
+pub record Forwarding : Type 0 where
+  pub sender : ℕ
+  pub message : ℕ
+  pub children : ℕ
+  pub made : ℕ
+  pub counts : List ℕ
+
+-- the counts are lent beside the rest
+unfoldable pub withCounts : List ℕ → Outgoing → Forwarding
+withCounts counts o = record { sender = o .sender; message = o .message; children = o .children; made = o .made; counts = counts }
+
+unfoldable pub withoutCounts : Forwarding → Outgoing
+withoutCounts f = record { sender = f .sender; message = f .message; children = f .children; made = f .made }
 
 -- a child is left
 unfoldable pub isLeft : Forwarding → Bool

@@ -1,71 +1,87 @@
 // Passing a message on: a hop to each child, in rising unit number.
 ghost use mathlib.Core.Path.{_≡_};
+ghost use mathlib.Core.List.{[]};
+ghost use lib.ListN.{getD};
 ghost use Rattle.sets.specs.Sets.{lowest};
-ghost use Rattle.hops.specs.Access.{isLeft, nextHop, afterNext};
+ghost use Rattle.tables.specs.Values.{plus as plusOf, added as addedOf};
+ghost use Rattle.hops.specs.Access.{withCounts, withoutCounts, isLeft, nextHop, afterNext};
 
 // The hops that one copy taken makes.
-pub struct Forwarding {
+pub struct Outgoing {
     pub sender: u8,
     pub message: u16,
     // the children that have no hop yet
     pub children: u32,
-    // how many hops were made, and how many from the sender to each unit
+    // how many hops were made
     pub made: u16,
-    pub counts: [u16; 32],
 }
 
 // Whether a child is left.
-pub fn is_left(f: Forwarding) -> bool
-    ensures { λ r. ⌜ r ≡ isLeft f ⌝ }
+pub fn is_left(o: Outgoing) -> bool
+    ensures { λ r. ⌜ r ≡ isLeft (withCounts [] o) ⌝ }
 {
-    f.children != 0
+    o.children != 0
+}
+
+// How many hops were made.
+pub fn made(o: Outgoing) -> u16
+    ensures { λ r. ⌜ r ≡ o .made ⌝ }
+{
+    o.made
 }
 
 // Where the next hop goes.
-pub fn place(f: Forwarding) -> usize
-    ensures { λ r. ⌜ r ≡ f .made ⌝ }
+pub fn place(o: Outgoing) -> usize
+    ensures { λ r. ⌜ r ≡ o .made ⌝ }
 {
-    f.made as usize
+    o.made as usize
+}
+
+// One more is counted at a unit: its new count.
+fn count_at(counts: &mut [u16], unit: usize) -> u16
+    ensures { λ r. ⌜ (r ≡ plusOf (getD (now (counts .entry)) unit 0) 1) × (now (counts .exit) ≡ addedOf (now (counts .entry)) unit 1) ⌝ }
+{
+    if unit < counts.len() {
+        let count = tables::plus(counts[unit], 1);
+        counts[unit] = count;
+        return count;
+    }
+    1
 }
 
 // The child that is next: the lowest.
-fn next_child(f: Forwarding) -> usize
-    ensures { λ r. ⌜ r ≡ lowest (f .children) ⌝ }
+fn next_child(o: Outgoing) -> usize
+    ensures { λ r. ⌜ r ≡ lowest (o .children) ⌝ }
 {
-    sets::lowest(f.children)
+    sets::lowest(o.children)
 }
 
-// The hop to the next child.
-pub fn next_hop(f: Forwarding) -> model::Hop
-    ensures { λ r. ⌜ r ≡ nextHop f ⌝ }
+// The hop to the next child; it is counted.
+pub fn next_hop(o: Outgoing, counts: &mut [u16]) -> model::Hop
+    ensures { λ r. ⌜ (r ≡ nextHop (withCounts (now (counts .entry)) o)) × (now (counts .exit) ≡ afterNext (withCounts (now (counts .entry)) o) .counts) ⌝ }
 {
-    let child = next_child(f);
-    let counts = f.counts;
-    let before = tables::counts::at(counts, child);
-    let sequence = tables::plus(before, 1);
+    let child = next_child(o);
+    let sequence = count_at(counts, child);
     model::Hop {
-        sender: f.sender,
+        sender: o.sender,
         receiver: child as u8,
         sequence,
-        message: f.message,
+        message: o.message,
         state: 0,
     }
 }
 
 // What is left once that hop was made.
-pub fn after(f: Forwarding) -> Forwarding
-    ensures { λ r. ⌜ r ≡ afterNext f ⌝ }
+pub fn after(o: Outgoing) -> Outgoing
+    ensures { λ r. ⌜ r ≡ withoutCounts (afterNext (withCounts [] o)) ⌝ }
 {
-    let child = next_child(f);
-    let counts = f.counts;
-    let counted = tables::counts::added(counts, child, 1);
-    let children = sets::excluding(f.children, child);
-    let made = tables::plus(f.made, 1);
-    Forwarding {
-        sender: f.sender,
-        message: f.message,
+    let child = next_child(o);
+    let children = sets::excluding(o.children, child);
+    let made = tables::plus(o.made, 1);
+    Outgoing {
+        sender: o.sender,
+        message: o.message,
         children,
         made,
-        counts: counted,
     }
 }

@@ -1,15 +1,15 @@
-// The hops of a bench: a list of records lent by the caller. Every access to a record goes through `read`, `set_state`,
+// The hops of a bench: a list of records lent by the caller. Every access to a record goes through `read`, `message_at`, `set_state`,
 // `append` and `clear`. Every function is total: a place past the list reads as zeros, and nothing is stored there.
 
 mod forwarding;
 
-pub use forwarding::Forwarding;
+pub use forwarding::Outgoing;
 ghost use mathlib.Core.Path.{_≡_};
 ghost use Prim.Native.Nat.{_-_};
 ghost use lib.ListN.{set};
 ghost use Rattle.model.specs.Network.{hopAt, setState, isPair, noHop as zeros};
 ghost use Rattle.tables.specs.Values.{filled};
-ghost use Rattle.hops.specs.Access.{nextOfPair, forwarded, forwardedHops};
+ghost use Rattle.hops.specs.Access.{nextOfPair, withCounts, forwarded, forwardedHops};
 
 // The record at a place.
 pub fn read(hops: &[model::Hop], at: usize) -> model::Hop
@@ -19,6 +19,16 @@ pub fn read(hops: &[model::Hop], at: usize) -> model::Hop
         return hops[at];
     }
     no_hop()
+}
+
+// The message of the record at a place, alone: read whole right after its state was stored, a record would have to wait for that store.
+pub fn message_at(hops: &[model::Hop], at: usize) -> u16
+    ensures { λ r. ⌜ r ≡ hopAt (now (hops .entry)) at .message ⌝ }
+{
+    if at < hops.len() {
+        return hops[at].message;
+    }
+    0
 }
 
 // The record at a place gets another state.
@@ -66,18 +76,20 @@ pub fn next_of_pair(hops: &[model::Hop], sender: u8, receiver: u8, from: usize, 
     at
 }
 
-// A hop to each child of `start` that has none yet, in rising unit number.
-pub fn forward(hops: &mut [model::Hop], start: Forwarding) -> Forwarding
-    ensures { λ r. ⌜ (r ≡ forwarded 32 start) × (now (hops .exit) ≡ forwardedHops 32 start (now (hops .entry))) ⌝ }
+// A hop to each child of `start` that has none yet, in rising unit number; each is counted. Answers how many hops are made then.
+pub fn forward(hops: &mut [model::Hop], counts: &mut [u16], start: Outgoing) -> u16
+    ensures { λ r. ⌜ (r ≡ forwarded 32 (withCounts (now (counts .entry)) start) .made)
+        × (now (hops .exit) ≡ forwardedHops 32 (withCounts (now (counts .entry)) start) (now (hops .entry)))
+        × (now (counts .exit) ≡ forwarded 32 (withCounts (now (counts .entry)) start) .counts) ⌝ }
 {
-    let mut f = start;
-    while forwarding::is_left(f) {
-        let hop = forwarding::next_hop(f);
-        let at = forwarding::place(f);
+    let mut o = start;
+    while forwarding::is_left(o) {
+        let hop = forwarding::next_hop(o, counts);
+        let at = forwarding::place(o);
         append(hops, at, hop);
-        f = forwarding::after(f);
+        o = forwarding::after(o);
     }
-    f
+    forwarding::made(o)
 }
 
 // What a place not yet used holds.

@@ -7,17 +7,18 @@ use lib.Dec.{eqb}
 use lib.ListN.{length}
 use Rattle.model.specs.declared.Hop.{Hop}
 use Rattle.model.specs.Network.{hopAt, setState}
+use Rattle.tables.specs.Values.{rowOf}
 use Rattle.relay.specs.declared.Bench.{Bench}
 use Rattle.relay.specs.declared.arrival.Arrival.{Arrival}
 use Rattle.relay.specs.Machine.{received, Settling, arriveStart, arriveEnd, arriveResult, updatedBench, finishedBench, finishedReply, finishedResult}
 use Rattle.in_place.specs.declared.Totals.{Totals}
-use Rattle.in_place.specs.InPlace.{topologyIn, messagesIn, benchIn, totalsOf, passageOf, arrivalIn, alone, settledIn, finishedTotals, finishedIn, arrivedIn}
+use Rattle.in_place.specs.InPlace.{topologyIn, messagesIn, benchIn, totalsOf, madeRow, passageOf, arrivalIn, alone, settledIn, finishedTotals, finishedIn, arrivedIn}
 
 pub ends-there : (t : Totals) (ts ms : List ℕ) (rows : List (List ℕ)) (j : ℕ) (hs : List Hop) (book : List ℕ)
-    → settledIn ts ms (passageOf (received (benchIn t [] [] rows) j (hopAt hs j) (length hs) (length book)))
+    → settledIn ts ms (madeRow rows (hopAt hs j .receiver)) (passageOf (received (benchIn t [] [] rows) j (hopAt hs j) (length hs) (length book)))
     (setState (passageOf (received (benchIn t [] [] rows) j (hopAt hs j) (length hs) (length book)) .hold) 1 hs) book
     ≡ arriveEnd (benchIn t ts ms rows) j hs book
-unfolding settledIn passageOf arrivalIn received benchIn messagesIn arriveStart arriveEnd
+unfolding settledIn madeRow passageOf arrivalIn received rowOf benchIn messagesIn arriveStart arriveEnd
 ends-there t ts ms rows j hs book = refl
 
 chosen : (b : Bool) (t : Totals) (ts ms : List ℕ) (rows : List (List ℕ)) (a : Arrival)

@@ -18,19 +18,19 @@ use denote.Builtin.{bool, unit, u8, u16, u32, usize}
 use denote.RattleType.{RattleType}
 use Rattle.model.specs.declared.Hop.{Hop}
 use Rattle.relay.specs.declared.Bench.{Bench}
-use Rattle.relay.specs.Machine.{received, isGoing, searchFrom, searchEnd, movedTo, takeHops, takeBook, arriveResult, arriveHops, arriveBook}
+use Rattle.relay.specs.Machine.{received, isGoing, searchFrom, searchEnd, movedTo, takeArrival, takeHops, takeBook, arriveResult, arriveHops, arriveBook}
 use Rattle.relay.specs.Machine.{sendRefusal, firstHop, sentResult, sendResult, sendHops, restReply}
 use Rattle.in_place.specs.declared.Totals.{Totals}
-use Rattle.in_place.specs.InPlace.{benchIn, passageOf, arrivalIn, alone, deliveryIn, logDelivery, outgoingOf, afterDelivery, takeIn, nextIn, settledIn, finishedIn}
+use Rattle.in_place.specs.InPlace.{benchIn, madeRow, passageOf, arrivalIn, alone, deliveryIn, logDelivery, outgoingOf, afterDelivery, nextIn, settledIn, finishedIn}
 use Rattle.in_place.specs.InPlace.{finishedRows, arrivedIn, arriveRows, sentIn, sendMessages, sendRows, tablesOf, noTotals}
 use Rattle.hops.proofs.Records.{R, by-hop}
-use Rattle.hops.proofs.Called.{F, by-forwarding}
-use Rattle.relay.proofs.Known.{by-rest-reply}
+use Rattle.hops.proofs.Called.{O, by-outgoing}
+use Rattle.relay.proofs.Known.{by-rest-reply, by-counts}
 use Rattle.relay.proofs.replies.RestReply as RestReply
 use Rattle.routing.proofs.Topology as Topology
 use Rattle.routing.proofs.Topology.Laws as Topology′
 use Rattle.walks.proofs.Values.{ByValue, by-uint, by-bool, by-unit, by-struct, by-array}
-use Rattle.walks.proofs.Calling.{value, lent, shown, relayed, Callee}
+use Rattle.walks.proofs.Calling.{Pass, value, lent, shown, relayed, Callee}
 use Rattle.walks.proofs.ByRule.{Telling, stating, by-rule, the-result, the-list, result-and-list, result-and-lists}
 use Rattle.in_place.proofs.arriving.Passage as Passage
 use Rattle.in_place.proofs.arriving.Passage.Laws as Passage′
@@ -83,6 +83,10 @@ Told = Sent.the-row
 abbrev pub Row : RattleType
 Row = Array u16 32
 
+-- what the functions that take copies are passed: a passage, tables, messages, counts, hops, book
+abbrev on-copies : List (Pass 5)
+on-copies = value P by-passage ∷ relayed 0 tt u32 (by-uint w32) ∷ relayed 1 tt u16 (by-uint w16) ∷ lent 2 tt u16 ∷ lent 3 tt R ∷ lent 4 tt u16 ∷ []
+
 -- a contract that says the result and three lists
 abbrev pub result-and-three : {X Y Z Q : Type 0} → Telling X (Y × (Z × (Q × Unit {0})))
 result-and-three = record {
@@ -115,9 +119,6 @@ module _ {M : Type 1} (𝓤 : URA M) (H : Heap 𝓤) (A : Atoms 𝓤) where
   abbrev pub is-going-callee : Callee 𝓤 H A
   is-going-callee = by-rule 𝓤 H A (value P by-passage ∷ []) bool by-bool (λ d. isGoing (alone (d .0)))
 
-  abbrev pub message-of-callee : Callee 𝓤 H A
-  message-of-callee = by-rule 𝓤 H A (value R by-hop ∷ []) u16 (by-uint w16) (λ d. d .0 .message)
-
   abbrev pub delivery-to-callee : Callee 𝓤 H A
   delivery-to-callee =
       stating 𝓤 H A 2 (value u8 (by-uint w8) ∷ value u16 (by-uint w16) ∷ relayed 0 tt u32 (by-uint w32) ∷ relayed 1 tt u16 (by-uint w16) ∷ [])
@@ -128,16 +129,17 @@ module _ {M : Type 1} (𝓤 : URA M) (H : Heap 𝓤) (A : Atoms 𝓤) where
       stating 𝓤 H A 1 (value P by-passage ∷ value D by-delivery ∷ lent 0 tt u16 ∷ []) unit by-unit the-list (λ d. tt) (λ d. (logDelivery (d .0) (d .1 .0) (d .1 .1 .0), tt))
 
   abbrev pub outgoing-callee : Callee 𝓤 H A
-  outgoing-callee = by-rule 𝓤 H A (value P by-passage ∷ value D by-delivery ∷ []) F by-forwarding (λ d. outgoingOf (d .0) (d .1 .0))
+  outgoing-callee = by-rule 𝓤 H A (value P by-passage ∷ value D by-delivery ∷ []) O by-outgoing (λ d. outgoingOf (d .0) (d .1 .0))
 
   abbrev pub after-copy-callee : Callee 𝓤 H A
-  after-copy-callee = by-rule 𝓤 H A (value P by-passage ∷ value D by-delivery ∷ value F by-forwarding ∷ []) P by-passage (λ d. afterDelivery (d .0) (d .1 .0) (d .1 .1 .0))
+  after-copy-callee = by-rule 𝓤 H A (value P by-passage ∷ value D by-delivery ∷ value u16 (by-uint w16) ∷ []) P by-passage (λ d. afterDelivery (d .0) (d .1 .0) (d .1 .1 .0))
 
   abbrev pub take-callee : Callee 𝓤 H A
   take-callee =
-      stating 𝓤 H A 4 (value P by-passage ∷ relayed 0 tt u32 (by-uint w32) ∷ relayed 1 tt u16 (by-uint w16) ∷ lent 2 tt R ∷ lent 3 tt u16 ∷ []) P by-passage result-and-lists
-      (λ d. takeIn (d .1 .0) (d .1 .1 .0) (d .0) (d .1 .1 .1 .0))
-      (λ d. let a = arrivalIn (d .1 .0) (d .1 .1 .0) (d .0) in (takeHops a (d .1 .1 .1 .0), (takeBook a (d .1 .1 .1 .0) (d .1 .1 .1 .1 .0), tt)))
+      stating 𝓤 H A 5 on-copies P by-passage result-and-three
+      (λ d. passageOf (takeArrival (arrivalIn (d .1 .0) (d .1 .1 .0) (d .1 .1 .1 .0) (d .0)) (d .1 .1 .1 .1 .0)))
+      (λ d. let a = arrivalIn (d .1 .0) (d .1 .1 .0) (d .1 .1 .1 .0) (d .0) in let hs = d .1 .1 .1 .1 .0 in
+      (takeArrival a hs .counts, (takeHops a hs, (takeBook a hs (d .1 .1 .1 .1 .1 .0), tt))))
 
   abbrev pub search-from-callee : Callee 𝓤 H A
   search-from-callee = by-rule 𝓤 H A (value P by-passage ∷ []) usize (by-uint w64) (λ d. searchFrom (alone (d .0)))
@@ -157,14 +159,17 @@ module _ {M : Type 1} (𝓤 : URA M) (H : Heap 𝓤) (A : Atoms 𝓤) where
 
   abbrev pub settle-callee : Callee 𝓤 H A
   settle-callee =
-      stating 𝓤 H A 4 (value P by-passage ∷ relayed 0 tt u32 (by-uint w32) ∷ relayed 1 tt u16 (by-uint w16) ∷ lent 2 tt R ∷ lent 3 tt u16 ∷ []) P by-passage result-and-lists
-      (λ d. passageOf (settledIn (d .1 .0) (d .1 .1 .0) (d .0) (d .1 .1 .1 .0) (d .1 .1 .1 .1 .0) .arrival))
-      (λ d. let s = settledIn (d .1 .0) (d .1 .1 .0) (d .0) (d .1 .1 .1 .0) (d .1 .1 .1 .1 .0) in (s .hops, (s .book, tt)))
+      stating 𝓤 H A 5 on-copies P by-passage result-and-three
+      (λ d. passageOf (settledIn (d .1 .0) (d .1 .1 .0) (d .1 .1 .1 .0) (d .0) (d .1 .1 .1 .1 .0) (d .1 .1 .1 .1 .1 .0) .arrival))
+      (λ d. let s = settledIn (d .1 .0) (d .1 .1 .0) (d .1 .1 .1 .0) (d .0) (d .1 .1 .1 .1 .0) (d .1 .1 .1 .1 .1 .0) in (s .arrival .counts, (s .hops, (s .book, tt))))
+
+  abbrev pub counts-of-callee : Callee 𝓤 H A
+  counts-of-callee = stating 𝓤 H A 1 (value R by-hop ∷ shown 0 tt Row ∷ []) Row by-counts the-result (λ d. madeRow (d .1 .0) (d .0 .receiver)) (λ d. tt)
 
   abbrev pub finished-arrival-callee : Callee 𝓤 H A
   finished-arrival-callee =
-      stating 𝓤 H A 1 (value T by-totals ∷ value P by-passage ∷ lent 0 tt Row ∷ []) Arrived.the-row by-arrived result-and-list
-      (λ d. finishedIn (d .0) (d .1 .0)) (λ d. (finishedRows (d .1 .0) (d .1 .1 .0), tt))
+      stating 𝓤 H A 1 (value T by-totals ∷ value P by-passage ∷ value Row by-counts ∷ lent 0 tt Row ∷ []) Arrived.the-row by-arrived result-and-list
+      (λ d. finishedIn (d .0) (d .1 .0)) (λ d. (finishedRows (d .1 .0) (d .1 .1 .0) (d .1 .1 .1 .0), tt))
 
   abbrev pub arrive-callee : Callee 𝓤 H A
   arrive-callee =

@@ -22,7 +22,7 @@ use Rattle.relay.specs.Machine.{sizeAt, countOf, sendRefusal, firstHop, recorde
 use Rattle.relay.specs.Machine.{unlessRefused, logStart, logCount, logPart, restReply}
 use Rattle.in_place.specs.declared.Totals.{Totals}
 use Rattle.in_place.specs.declared.arriving.Passage.{Passage}
-use Rattle.in_place.specs.InPlace.{topologyIn, primariesIn, messagesIn, benchIn, totalsOf, noTotals, madeRow, takenRow, withMade, withTaken, passageOf, updatedRows, finishedRows, arriveRows}
+use Rattle.in_place.specs.InPlace.{topologyIn, primariesIn, messagesIn, benchIn, totalsOf, noTotals, withNumber, madeRow, takenRow, withMade, withTaken, passageOf, updatedRows, finishedRows, arriveRows}
 use Rattle.in_place.specs.InPlace.{sentIn, recordedMessages, recordedRows, sendMessages, sendRows}
 
 -- the totals are those of the bench
@@ -55,10 +55,6 @@ unfolding withMade
 made-lengths rows u row = chosen (λ (l : List (List ℕ)). getD l 64 []) u 32 _ rows _
     (λ h. getD-set-other rows u 64 row [] (λ (e : 64 ≡ u). let z : ⊥ = omega arith in z)) (λ h. refl)
 
-made-size : (rows : List (List ℕ)) (u : ℕ) (row : List ℕ) → length (withMade rows u row) ≡ length rows
-unfolding withMade
-made-size rows u row = chosen (λ (l : List (List ℕ)). length l) u 32 _ rows _ (λ h. length-set rows u row) (λ h. refl)
-
 taken-made : (rows : List (List ℕ)) (u : ℕ) (row : List ℕ) → take 32 (withTaken rows u row) ≡ take 32 rows
 unfolding withTaken
 taken-made rows u row = chosen (take 32) u 32 _ rows _ (λ h. take-set-le 32 rows (32 + u) row (omega arith)) (λ h. refl)
@@ -68,62 +64,66 @@ unfolding withTaken
 taken-taken rows u row = chosen (λ (l : List (List ℕ)). take 32 (drop 32 l)) u 32 _ rows _
     (λ h. ap (take 32) (drop-set-add 32 rows u row) ∙ take-set-lt 32 (drop 32 rows) u row h) (λ h. past-part 32 (drop 32 rows) u row h)
 
-taken-size : (rows : List (List ℕ)) (u : ℕ) (row : List ℕ) → length (withTaken rows u row) ≡ length rows
+taken-lengths : (rows : List (List ℕ)) (u : ℕ) (row : List ℕ) → getD (withTaken rows u row) 64 [] ≡ getD rows 64 []
 unfolding withTaken
-taken-size rows u row = chosen (λ (l : List (List ℕ)). length l) u 32 _ rows _ (λ h. length-set rows (32 + u) row) (λ h. refl)
+taken-lengths rows u row = chosen (λ (l : List (List ℕ)). getD l 64 []) u 32 _ rows _
+    (λ h. getD-set-other rows (32 + u) 64 row [] (λ (e : 64 ≡ 32 + u). let z : ⊥ = omega (arith, e, h) in z)) (λ h. refl)
 
 -- ---- an arrival
 
--- the last row: another length
-longer : (rows l : List (List ℕ)) (r n : ℕ) → length l ≡ length rows → getD (set l 64 (set (getD rows 64 (replicate 32 0)) r n)) 64 [] ≡ set (getD rows 64 []) r n
-longer rows l r n e =
-    let row : List ℕ = set (getD rows 64 (replicate 32 0)) r n in
-    by-cases (decLt 64 (length rows))
-    (λ (h : 64 < length rows). getD-set-same l 64 row [] (let z : 64 < length l = omega arith in z)
-    ∙ ap (λ (x : List ℕ). set x r n) (any-default rows (length rows) 64 (replicate 32 0) [] refl h))
-    (λ (h : 64 < length rows → ⊥).
-    List·getD-eq-default (set l 64 row) [] (let z : length (set l 64 row) ≤ 64 = omega (arith, length-set l 64 row) in z)
-    ∙ ap (λ (x : List ℕ). set x r n) (sym (List·getD-eq-default rows [] (let z : length rows ≤ 64 = omega arith in z))))
+-- a row with another number
+with-number : (rows : List (List ℕ)) (i j x : ℕ) → getD (withNumber rows i j x) i [] ≡ set (getD rows i []) j x
+unfolding withNumber
+with-number rows i j x =
+    let row : List ℕ = set (getD rows i (replicate 32 0)) j x in
+    by-cases (decLt i (length rows))
+    (λ (h : i < length rows). getD-set-same rows i row [] h ∙ ap (λ (l : List ℕ). set l j x) (any-default rows (length rows) i (replicate 32 0) [] refl h))
+    (λ (h : i < length rows → ⊥).
+    List·getD-eq-default (set rows i row) [] (let z : length (set rows i row) ≤ i = omega (arith, length-set rows i row) in z)
+    ∙ ap (λ (l : List ℕ). set l j x) (sym (List·getD-eq-default rows [] (let z : length rows ≤ i = omega arith in z))))
 
-module _ (p : Passage) (rows : List (List ℕ)) where
+module _ (p : Passage) (counts : List ℕ) (rows : List (List ℕ)) where
   abbrev made : List (List ℕ)
-  made = withMade rows (p .receiver) (p .counts)
+  made = withMade rows (p .receiver) counts
 
   abbrev row : List ℕ
-  row = added (takenRow rows (p .sender)) (p .receiver) (p .taken)
+  row = added (takenRow made (p .sender)) (p .receiver) (p .taken)
 
   abbrev taken : List (List ℕ)
   taken = withTaken made (p .sender) row
 
-  updated-made : take 32 (updatedRows p rows) ≡ set (take 32 rows) (p .receiver) (p .counts)
-  unfolding updatedRows
-  updated-made = take-set-le 32 taken 64 _ (omega arith) ∙ taken-made made (p .sender) row ∙ made-made rows (p .receiver) (p .counts)
+  updated-made : take 32 (updatedRows p counts rows) ≡ set (take 32 rows) (p .receiver) counts
+  unfolding updatedRows withNumber
+  updated-made = take-set-le 32 taken 64 _ (omega arith) ∙ taken-made made (p .sender) row ∙ made-made rows (p .receiver) counts
 
-  updated-taken : take 32 (drop 32 (updatedRows p rows)) ≡ set (take 32 (drop 32 rows)) (p .sender) (added (rowOf (take 32 (drop 32 rows)) (p .sender)) (p .receiver) (p .taken))
-  unfolding updatedRows takenRow rowOf
+  updated-taken : take 32 (drop 32 (updatedRows p counts rows))
+      ≡ set (take 32 (drop 32 rows)) (p .sender) (added (rowOf (take 32 (drop 32 rows)) (p .sender)) (p .receiver) (p .taken))
+  unfolding updatedRows withNumber takenRow rowOf
   updated-taken =
       ap (take 32) (drop-set-add 32 taken 32 _) ∙ take-set-le 32 (drop 32 taken) 32 _ (omega arith) ∙ taken-taken made (p .sender) row
-      ∙ ap (λ (l : List (List ℕ)). set l (p .sender) row) (made-taken rows (p .receiver) (p .counts))
+      ∙ ap (λ (l : List (List ℕ)). set l (p .sender) (added (getD l (p .sender) (replicate 32 0)) (p .receiver) (p .taken))) (made-taken rows (p .receiver) counts)
 
-  updated-lengths : getD (updatedRows p rows) 64 [] ≡ set (getD rows 64 []) (p .receiver) (p .length)
+  updated-lengths : getD (updatedRows p counts rows) 64 [] ≡ set (getD rows 64 []) (p .receiver) (p .length)
   unfolding updatedRows
-  updated-lengths = longer rows taken (p .receiver) (p .length) (taken-size made (p .sender) row ∙ made-size rows (p .receiver) (p .counts))
+  updated-lengths =
+      with-number taken 64 (p .receiver) (p .length)
+      ∙ ap (λ (l : List ℕ). set l (p .receiver) (p .length)) (taken-lengths made (p .sender) row ∙ made-lengths rows (p .receiver) counts)
 
 updated-leaves : (t : Totals) (ts ms : List ℕ) (rows : List (List ℕ)) (a : Arrival)
-    → benchIn (totalsOf (updatedBench (benchIn t ts ms rows) a)) ts ms (updatedRows (passageOf a) rows) ≡ updatedBench (benchIn t ts ms rows) a
+    → benchIn (totalsOf (updatedBench (benchIn t ts ms rows) a)) ts ms (updatedRows (passageOf a) (a .counts) rows) ≡ updatedBench (benchIn t ts ms rows) a
 unfolding benchIn messagesIn totalsOf updatedBench passageOf
 updated-leaves t ts ms rows a = λ i. record {
   topology = topologyIn ts;
   messages = messagesIn t ms;
   made = a .made;
   taken = updatedBench (benchIn t ts ms rows) a .taken;
-  counts = record { grid = updated-made (passageOf a) rows i };
-  takes = record { grid = updated-taken (passageOf a) rows i };
-  lengths = updated-lengths (passageOf a) rows i;
+  counts = record { grid = updated-made (passageOf a) (a .counts) rows i };
+  takes = record { grid = updated-taken (passageOf a) (a .counts) rows i };
+  lengths = updated-lengths (passageOf a) (a .counts) rows i;
 }
 
 ended-leaves : (b : Bool) (t : Totals) (ts ms : List ℕ) (rows : List (List ℕ)) (a : Arrival)
-    → benchIn (totalsOf (cond b (benchIn t ts ms rows) (updatedBench (benchIn t ts ms rows) a))) ts ms (cond b rows (updatedRows (passageOf a) rows))
+    → benchIn (totalsOf (cond b (benchIn t ts ms rows) (updatedBench (benchIn t ts ms rows) a))) ts ms (cond b rows (updatedRows (passageOf a) (a .counts) rows))
     ≡ cond b (benchIn t ts ms rows) (updatedBench (benchIn t ts ms rows) a)
 ended-leaves true t ts ms rows a = same t ts ms rows
 ended-leaves false t ts ms rows a = updated-leaves t ts ms rows a

@@ -10,12 +10,12 @@ use Rattle.layout.specs.Tables.{tabulate}
 use Rattle.routing.specs.declared.Topology.{Topology}
 use Rattle.tables.specs.declared.messages.Messages.{Messages}
 use Rattle.tables.specs.Values.{plus, byte, added, logged}
-use Rattle.hops.specs.declared.forwarding.Forwarding.{Forwarding}
+use Rattle.hops.specs.declared.forwarding.Outgoing.{Outgoing}
 use Rattle.relay.specs.declared.Bench.{Bench}
 use Rattle.relay.specs.declared.Arrived.{Arrived as ArrivedBench}
 use Rattle.relay.specs.declared.Sent.{Sent as SentBench}
 use Rattle.relay.specs.declared.arrival.Arrival.{Arrival}
-use Rattle.relay.specs.Machine.{takeArrival, nextArrival, Settling, settled, finishedReply, arriveEnd}
+use Rattle.relay.specs.Machine.{nextArrival, Settling, settled, finishedReply, arriveEnd}
 use Rattle.in_place.specs.declared.Totals.{Totals}
 use Rattle.in_place.specs.declared.Sent.{Sent}
 use Rattle.in_place.specs.declared.Arrived.{Arrived}
@@ -72,6 +72,10 @@ noTotals = record { made = 0; taken = 0; sent = 0; routed = 0 }
 
 -- ---- rows
 
+-- another number j of row i
+unfoldable pub withNumber : List (List ℕ) → ℕ → ℕ → ℕ → List (List ℕ)
+withNumber rows i j x = set rows i (set (getD rows i (replicate 32 0)) j x)
+
 unfoldable pub madeRow : List (List ℕ) → ℕ → List ℕ
 madeRow rows u = getD (take 32 rows) u (replicate 32 0)
 
@@ -100,11 +104,10 @@ passageOf a = record {
   taken = a .taken;
   length = a .length;
   made = a .made;
-  counts = a .counts;
 }
 
-unfoldable pub arrivalIn : List ℕ → List ℕ → Passage → Arrival
-arrivalIn ts ms p = record {
+unfoldable pub arrivalIn : (tables messages counts : List ℕ) → Passage → Arrival
+arrivalIn ts ms cs p = record {
   topology = topologyIn ts;
   groups = take 200 (drop 200 ms);
   sender = p .sender;
@@ -118,12 +121,12 @@ arrivalIn ts ms p = record {
   taken = p .taken;
   length = p .length;
   made = p .made;
-  counts = p .counts;
+  counts = cs;
 }
 
 -- the same with no lists
 unfoldable pub alone : Passage → Arrival
-alone p = arrivalIn [] [] p
+alone p = arrivalIn [] [] [] p
 
 -- what message m means to a receiver
 unfoldable pub deliveryIn : List ℕ → List ℕ → ℕ → ℕ → Delivery
@@ -138,14 +141,14 @@ deliveryIn ts ms r m =
 unfoldable pub logDelivery : Passage → Delivery → List ℕ → List ℕ
 logDelivery p d book = cond (d .member) (logged (p .receiver) (p .length) (d .message) book) book
 
-unfoldable pub outgoingOf : Passage → Delivery → Forwarding
-outgoingOf p d = record { sender = p .receiver; message = d .message; children = d .children; made = p .made; counts = p .counts }
+unfoldable pub outgoingOf : Passage → Delivery → Outgoing
+outgoingOf p d = record { sender = p .receiver; message = d .message; children = d .children; made = p .made }
 
 unfoldable pub afterLength : Passage → Delivery → ℕ
 afterLength p d = cond (d .member) (plus (p .length) 1) (p .length)
 
-unfoldable pub afterDelivery : Passage → Delivery → Forwarding → Passage
-afterDelivery p d f = record {
+unfoldable pub afterDelivery : Passage → Delivery → (made : ℕ) → Passage
+afterDelivery p d made = record {
   sender = p .sender;
   receiver = p .receiver;
   refusal = p .refusal;
@@ -156,28 +159,24 @@ afterDelivery p d f = record {
   left = p .left - 1;
   taken = plus (p .taken) 1;
   length = afterLength p d;
-  made = f .made;
-  counts = f .counts;
+  made = made;
 }
-
-unfoldable pub takeIn : List ℕ → List ℕ → Passage → List Hop → Passage
-takeIn ts ms p hs = passageOf (takeArrival (arrivalIn ts ms p) hs)
 
 unfoldable pub nextIn : Passage → List Hop → Passage
 nextIn p hs = passageOf (nextArrival (alone p) hs)
 
-unfoldable pub settledIn : List ℕ → List ℕ → Passage → List Hop → List ℕ → Settling
-settledIn ts ms p hs book = settled (p .end - p .at) (arrivalIn ts ms p) hs book
+unfoldable pub settledIn : (tables messages counts : List ℕ) → Passage → List Hop → List ℕ → Settling
+settledIn ts ms cs p hs book = settled (p .end - p .at) (arrivalIn ts ms cs p) hs book
 
 -- the rows once the passage is over
-unfoldable pub updatedRows : Passage → List (List ℕ) → List (List ℕ)
-updatedRows p rows =
-    let made = withMade rows (p .receiver) (p .counts) in
-    let taken = withTaken made (p .sender) (added (takenRow rows (p .sender)) (p .receiver) (p .taken)) in
-    set taken 64 (set (getD rows 64 (replicate 32 0)) (p .receiver) (p .length))
+unfoldable pub updatedRows : Passage → (counts : List ℕ) → List (List ℕ) → List (List ℕ)
+updatedRows p counts rows =
+    let made = withMade rows (p .receiver) counts in
+    let taken = withTaken made (p .sender) (added (takenRow made (p .sender)) (p .receiver) (p .taken)) in
+    withNumber taken 64 (p .receiver) (p .length)
 
-unfoldable pub finishedRows : Passage → List (List ℕ) → List (List ℕ)
-finishedRows p rows = cond (eqb (p .taken) 0) rows (updatedRows p rows)
+unfoldable pub finishedRows : Passage → (counts : List ℕ) → List (List ℕ) → List (List ℕ)
+finishedRows p counts rows = cond (eqb (p .taken) 0) rows (updatedRows p counts rows)
 
 unfoldable pub finishedTotals : Totals → Passage → Totals
 finishedTotals t p = cond (eqb (p .taken) 0) t (record { made = p .made; taken = plus (t .taken) (p .taken); sent = t .sent; routed = t .routed })
@@ -190,7 +189,7 @@ unfoldable pub arrivedIn : ArrivedBench → Arrived
 arrivedIn r = record { totals = totalsOf (r .bench); reply = r .reply }
 
 unfoldable pub arriveRows : Bench → ℕ → List (List ℕ) → List Hop → List ℕ → List (List ℕ)
-arriveRows b j rows hs book = finishedRows (passageOf (arriveEnd b j hs book .arrival)) rows
+arriveRows b j rows hs book = let a = arriveEnd b j hs book .arrival in finishedRows (passageOf a) (a .counts) rows
 
 -- ---- a send
 

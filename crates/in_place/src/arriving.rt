@@ -7,10 +7,9 @@ use relay::Bench;
 ghost use mathlib.Core.Path.{_≡_};
 ghost use mathlib.Core.List.{[]};
 ghost use Prim.Native.Nat.{_-_};
-ghost use lib.ListN.{set};
-ghost use Rattle.relay.specs.Machine.{arriveRefusal, isOpen, isNext, received, isGoing as goes, searchFrom, searchEnd, movedTo, takeHops, takeBook, finishedReply};
+ghost use Rattle.relay.specs.Machine.{arriveRefusal, isOpen, isNext, received, isGoing as goes, searchFrom, searchEnd, movedTo, takeArrival, takeHops, takeBook, finishedReply};
 ghost use Rattle.relay.specs.Machine.{arriveResult, arriveHops, arriveBook};
-ghost use Rattle.in_place.specs.InPlace.{benchIn, passageOf, arrivalIn, alone, deliveryIn, logDelivery, outgoingOf, afterDelivery, takeIn, nextIn};
+ghost use Rattle.in_place.specs.InPlace.{benchIn, madeRow, passageOf, arrivalIn, alone, deliveryIn, logDelivery, outgoingOf, afterDelivery, nextIn};
 ghost use Rattle.in_place.specs.InPlace.{settledIn, afterLength, updatedRows, finishedRows, finishedIn, arrivedIn, arriveRows};
 
 // What an arrival keeps: the fields of the relay's `Arrival`, less what stands in the lists.
@@ -26,7 +25,6 @@ pub struct Passage {
     pub taken: u16,
     pub length: u16,
     pub made: u16,
-    pub counts: [u16; 32],
 }
 
 // What a message means to its receiver: whether it is logged, and to which children it goes on.
@@ -101,16 +99,12 @@ fn begun(
     let open = is_open(number, h);
     let s = h.sender as usize;
     let r = h.receiver as usize;
-    let made_by = lists::made_row(rows, s);
-    let taken_by = lists::taken_row(rows, s);
-    let made = tables::counts::at(made_by, r);
-    let taken = tables::counts::at(taken_by, r);
+    let made = lists::made_count(rows, s, r);
+    let taken = lists::taken_count(rows, s, r);
     let next = is_next(taken, h);
     let place = hop as usize;
     let end = t.made as usize;
     let first = lists::choose(next, place, end);
-    let lengths = lists::row_at(rows, 64);
-    let counts = lists::made_row(rows, r);
     Passage {
         sender: h.sender,
         receiver: h.receiver,
@@ -121,9 +115,8 @@ fn begun(
         end,
         left: less(made, taken),
         taken: 0,
-        length: tables::counts::at(lengths, r),
+        length: lists::number_in(rows, 64, r),
         made: t.made,
-        counts,
     }
 }
 
@@ -160,13 +153,6 @@ fn is_going(p: Passage) -> bool
     p.at < p.end
 }
 
-// The message of a hop.
-fn message_of(hop: model::Hop) -> u16
-    ensures { λ r. ⌜ r ≡ hop .message ⌝ }
-{
-    hop.message
-}
-
 // What message m means to a receiver.
 fn delivery_to(receiver: u8, m: u16, tables: &[u32], messages: &[u16]) -> Delivery
     ensures { λ r. ⌜ r ≡ deliveryIn (now (tables .entry)) (now (messages .entry)) receiver m ⌝ }
@@ -193,16 +179,14 @@ fn log_copy(p: Passage, d: Delivery, book: &mut [u16])
 }
 
 // The hops to make: one to each child of the receiver that is on the route of the message's group.
-fn outgoing(p: Passage, d: Delivery) -> hops::Forwarding
+fn outgoing(p: Passage, d: Delivery) -> hops::Outgoing
     ensures { λ r. ⌜ r ≡ outgoingOf p d ⌝ }
 {
-    let counts = p.counts;
-    hops::Forwarding {
+    hops::Outgoing {
         sender: p.receiver,
         message: d.message,
         children: d.children,
         made: p.made,
-        counts,
     }
 }
 
@@ -216,41 +200,40 @@ fn longer(p: Passage, d: Delivery) -> u16
     p.length
 }
 
-// The arrival once the copy was taken and the hops f were made.
-fn after_copy(p: Passage, d: Delivery, f: hops::Forwarding) -> Passage
-    ensures { λ r. ⌜ r ≡ afterDelivery p d f ⌝ }
+// The arrival once the copy was taken: so many hops are made.
+fn after_copy(p: Passage, d: Delivery, made: u16) -> Passage
+    ensures { λ r. ⌜ r ≡ afterDelivery p d made ⌝ }
 {
     let mut next = p;
-    let counts = f.counts;
     next.left = less(p.left, 1);
     next.taken = tables::plus(p.taken, 1);
     next.length = longer(p, d);
-    next.made = f.made;
-    next.counts = counts;
+    next.made = made;
     next
 }
 
-// One copy is taken: its hop, the receiver's log, and the hops to the children.
+// One copy is taken: its hop, the receiver's log, and the hops to the children, which are counted.
 fn take(
     p: Passage,
     tables: &[u32],
     messages: &[u16],
+    counts: &mut [u16],
     hops: &mut [model::Hop],
     book: &mut [u16],
 ) -> Passage
-    ensures { λ r. ⌜ (r ≡ takeIn (now (tables .entry)) (now (messages .entry)) p (now (hops .entry)))
-        × (now (hops .exit) ≡ takeHops (arrivalIn (now (tables .entry)) (now (messages .entry)) p) (now (hops .entry)))
-        × (now (book .exit) ≡ takeBook (arrivalIn (now (tables .entry)) (now (messages .entry)) p) (now (hops .entry)) (now (book .entry))) ⌝ }
+    ensures { λ r. ⌜ (r ≡ passageOf (takeArrival (arrivalIn (now (tables .entry)) (now (messages .entry)) (now (counts .entry)) p) (now (hops .entry))))
+        × (now (counts .exit) ≡ takeArrival (arrivalIn (now (tables .entry)) (now (messages .entry)) (now (counts .entry)) p) (now (hops .entry)) .counts)
+        × (now (hops .exit) ≡ takeHops (arrivalIn (now (tables .entry)) (now (messages .entry)) (now (counts .entry)) p) (now (hops .entry)))
+        × (now (book .exit) ≡ takeBook (arrivalIn (now (tables .entry)) (now (messages .entry)) (now (counts .entry)) p) (now (hops .entry)) (now (book .entry))) ⌝ }
 {
     let at = place(p);
-    let hop = hops::read(hops, at);
-    let m = message_of(hop);
+    let m = hops::message_at(hops, at);
     hops::set_state(hops, at, 2);
     let to = receiver(p);
     let d = delivery_to(to, m, tables, messages);
     log_copy(p, d, book);
     let start = outgoing(p, d);
-    let made = hops::forward(hops, start);
+    let made = hops::forward(hops, counts, start);
     after_copy(p, d, made)
 }
 
@@ -307,46 +290,40 @@ fn settle(
     start: Passage,
     tables: &[u32],
     messages: &[u16],
+    counts: &mut [u16],
     hops: &mut [model::Hop],
     book: &mut [u16],
 ) -> Passage
-    ensures { λ r. ⌜ (r ≡ passageOf (settledIn (now (tables .entry)) (now (messages .entry)) start (now (hops .entry)) (now (book .entry)) .arrival))
-        × (now (hops .exit) ≡ settledIn (now (tables .entry)) (now (messages .entry)) start (now (hops .entry)) (now (book .entry)) .hops)
-        × (now (book .exit) ≡ settledIn (now (tables .entry)) (now (messages .entry)) start (now (hops .entry)) (now (book .entry)) .book) ⌝ }
+    ensures { λ r. ⌜ (r ≡ passageOf (settledIn (now (tables .entry)) (now (messages .entry)) (now (counts .entry)) start (now (hops .entry)) (now (book .entry)) .arrival))
+        × (now (counts .exit) ≡ settledIn (now (tables .entry)) (now (messages .entry)) (now (counts .entry)) start (now (hops .entry)) (now (book .entry)) .arrival .counts)
+        × (now (hops .exit) ≡ settledIn (now (tables .entry)) (now (messages .entry)) (now (counts .entry)) start (now (hops .entry)) (now (book .entry)) .hops)
+        × (now (book .exit) ≡ settledIn (now (tables .entry)) (now (messages .entry)) (now (counts .entry)) start (now (hops .entry)) (now (book .entry)) .book) ⌝ }
 {
     let mut p = start;
     while is_going(p) {
-        let q = take(p, tables, messages, hops, book);
+        let q = take(p, tables, messages, counts, hops, book);
         p = next(q, hops);
     }
     p
 }
 
+// How many hops were made from the receiver of a hop to each unit.
+fn counts_of(hop: model::Hop, rows: &[[u16; 32]]) -> [u16; 32]
+    ensures { λ r. ⌜ r ≡ madeRow (now (rows .entry)) (hop .receiver) ⌝ }
+{
+    lists::made_row(rows, hop.receiver as usize)
+}
+
 // The rows once the arrival is over: the receiver's hops made, the pair's hops taken, the length of the receiver's log.
-fn update(p: Passage, rows: &mut [[u16; 32]])
-    ensures { λ _. ⌜ now (rows .exit) ≡ updatedRows p (now (rows .entry)) ⌝ }
+fn update(p: Passage, counts: [u16; 32], rows: &mut [[u16; 32]])
+    ensures { λ _. ⌜ now (rows .exit) ≡ updatedRows p counts (now (rows .entry)) ⌝ }
 {
     let s = p.sender as usize;
     let r = p.receiver as usize;
-    let counts = p.counts;
-    let before = lists::taken_row(rows, s);
-    let row = tables::counts::added(before, r, p.taken);
-    let lengths = lists::row_at(rows, 64);
-    let longer = with_length(lengths, r, p.length);
     lists::set_made(rows, r, counts);
-    lists::set_taken(rows, s, row);
-    lists::set_row(rows, 64, longer);
-}
-
-// The lengths of the logs with another for a unit.
-fn with_length(lengths: [u16; 32], unit: usize, length: u16) -> [u16; 32]
-    ensures { λ r. ⌜ r ≡ set lengths unit length ⌝ }
-{
-    let mut next = lengths;
-    if unit < 32 {
-        next[unit] = length;
-    }
-    next
+    let before = lists::taken_count(rows, s, r);
+    lists::set_taken_count(rows, s, r, tables::plus(before, p.taken));
+    lists::set_number(rows, 64, r, p.length);
 }
 
 // What an arrival answers.
@@ -369,8 +346,8 @@ fn reply(p: Passage) -> ArriveReply
 }
 
 // What `arrive` answers and leaves once the arrival is settled.
-fn finished(t: Totals, p: Passage, rows: &mut [[u16; 32]]) -> Arrived
-    ensures { λ r. ⌜ (r ≡ finishedIn t p) × (now (rows .exit) ≡ finishedRows p (now (rows .entry))) ⌝ }
+fn finished(t: Totals, p: Passage, counts: [u16; 32], rows: &mut [[u16; 32]]) -> Arrived
+    ensures { λ r. ⌜ (r ≡ finishedIn t p) × (now (rows .exit) ≡ finishedRows p counts (now (rows .entry))) ⌝ }
 {
     let answer = reply(p);
     if p.taken == 0 {
@@ -379,7 +356,7 @@ fn finished(t: Totals, p: Passage, rows: &mut [[u16; 32]]) -> Arrived
             reply: answer,
         };
     }
-    update(p, rows);
+    update(p, counts, rows);
     let mut next = t;
     next.made = p.made;
     next.taken = tables::plus(t.taken, p.taken);
@@ -411,6 +388,7 @@ pub fn arrive(
     let start = begun(t, hop, record, rows, hops_lent, book_lent);
     let hold = hold_place(start);
     hops::set_state(hops, hold, 1);
-    let end = settle(start, tables, messages, hops, book);
-    finished(t, end, rows)
+    let mut counts = counts_of(record, rows);
+    let end = settle(start, tables, messages, &mut counts, hops, book);
+    finished(t, end, counts, rows)
 }

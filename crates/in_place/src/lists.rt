@@ -4,7 +4,7 @@ ghost use mathlib.Core.Bool.{cond};
 ghost use Prim.Native.Nat.{_-_};
 ghost use lib.ListN.{getD, set, take, drop, replicate};
 ghost use Rattle.sets.specs.Sets.{size as sizeOf};
-ghost use Rattle.in_place.specs.InPlace.{primariesIn, madeRow, takenRow, withMade, withTaken};
+ghost use Rattle.in_place.specs.InPlace.{primariesIn, withNumber, madeRow, takenRow, withMade, withTaken};
 
 // a where the test says so, else b.
 pub fn choose(test: bool, a: usize, b: usize) -> usize
@@ -35,7 +35,46 @@ pub fn set_row(rows: &mut [[u16; 32]], i: usize, row: [u16; 32])
     }
 }
 
-// The hops made by a unit.
+// Number j of row i.
+pub fn number_in(rows: &[[u16; 32]], i: usize, j: usize) -> u16
+    ensures { λ r. ⌜ r ≡ getD (getD (now (rows .entry)) i (replicate 32 0)) j 0 ⌝ }
+{
+    if 32 <= j {
+        let row = row_at(rows, i);
+        return tables::counts::at(row, j);
+    }
+    if i < rows.len() {
+        return rows[i][j];
+    }
+    0
+}
+
+// A row with another number j.
+fn with_number(row: [u16; 32], j: usize, x: u16) -> [u16; 32]
+    ensures { λ r. ⌜ r ≡ set row j x ⌝ }
+{
+    let mut next = row;
+    if j < 32 {
+        next[j] = x;
+    }
+    next
+}
+
+// Another number j of row i.
+pub fn set_number(rows: &mut [[u16; 32]], i: usize, j: usize, x: u16)
+    ensures { λ _. ⌜ now (rows .exit) ≡ withNumber (now (rows .entry)) i j x ⌝ }
+{
+    if 32 <= j {
+        let row = with_number(row_at(rows, i), j, x);
+        set_row(rows, i, row);
+        return;
+    }
+    if i < rows.len() {
+        rows[i][j] = x;
+    }
+}
+
+// The hops made by a unit, to each unit.
 pub fn made_row(rows: &[[u16; 32]], unit: usize) -> [u16; 32]
     ensures { λ r. ⌜ r ≡ madeRow (now (rows .entry)) unit ⌝ }
 {
@@ -45,14 +84,24 @@ pub fn made_row(rows: &[[u16; 32]], unit: usize) -> [u16; 32]
     [0u16; 32]
 }
 
-// The hops of a unit that were taken.
-pub fn taken_row(rows: &[[u16; 32]], unit: usize) -> [u16; 32]
-    ensures { λ r. ⌜ r ≡ takenRow (now (rows .entry)) unit ⌝ }
+// The hops made by a sender to a receiver.
+pub fn made_count(rows: &[[u16; 32]], sender: usize, receiver: usize) -> u16
+    ensures { λ r. ⌜ r ≡ getD (madeRow (now (rows .entry)) sender) receiver 0 ⌝ }
 {
-    if unit < 32 {
-        return row_at(rows, 32 + unit);
+    if sender < 32 {
+        return number_in(rows, sender, receiver);
     }
-    [0u16; 32]
+    0
+}
+
+// The hops of a sender to a receiver that were taken.
+pub fn taken_count(rows: &[[u16; 32]], sender: usize, receiver: usize) -> u16
+    ensures { λ r. ⌜ r ≡ getD (takenRow (now (rows .entry)) sender) receiver 0 ⌝ }
+{
+    if sender < 32 {
+        return number_in(rows, 32 + sender, receiver);
+    }
+    0
 }
 
 pub fn set_made(rows: &mut [[u16; 32]], unit: usize, row: [u16; 32])
@@ -63,11 +112,19 @@ pub fn set_made(rows: &mut [[u16; 32]], unit: usize, row: [u16; 32])
     }
 }
 
-pub fn set_taken(rows: &mut [[u16; 32]], unit: usize, row: [u16; 32])
-    ensures { λ _. ⌜ now (rows .exit) ≡ withTaken (now (rows .entry)) unit row ⌝ }
+pub fn set_made_count(rows: &mut [[u16; 32]], sender: usize, receiver: usize, x: u16)
+    ensures { λ _. ⌜ now (rows .exit) ≡ withMade (now (rows .entry)) sender (set (madeRow (now (rows .entry)) sender) receiver x) ⌝ }
 {
-    if unit < 32 {
-        set_row(rows, 32 + unit, row);
+    if sender < 32 {
+        set_number(rows, sender, receiver, x);
+    }
+}
+
+pub fn set_taken_count(rows: &mut [[u16; 32]], sender: usize, receiver: usize, x: u16)
+    ensures { λ _. ⌜ now (rows .exit) ≡ withTaken (now (rows .entry)) sender (set (takenRow (now (rows .entry)) sender) receiver x) ⌝ }
+{
+    if sender < 32 {
+        set_number(rows, 32 + sender, receiver, x);
     }
 }
 

@@ -40,8 +40,7 @@ fn first_hop(t: Totals, source: u16, group: u16, tables: &[u32], rows: &[[u16; 3
     ensures { λ r. ⌜ r ≡ firstHop (benchIn t (now (tables .entry)) [] (now (rows .entry))) source group ⌝ }
 {
     let top = lists::primary(tables, group as usize);
-    let row = lists::made_row(rows, source as usize);
-    let before = tables::counts::at(row, top as usize);
+    let before = lists::made_count(rows, source as usize, top as usize);
     model::Hop {
         sender: tables::byte(source),
         receiver: top,
@@ -75,9 +74,8 @@ fn count_hop(source: u16, group: u16, tables: &[u32], rows: &mut [[u16; 32]])
     ensures { λ _. ⌜ now (rows .exit) ≡ recordedRows (now (tables .entry)) source group (now (rows .entry)) ⌝ }
 {
     let top = lists::primary(tables, group as usize) as usize;
-    let before = lists::made_row(rows, source as usize);
-    let row = tables::counts::added(before, top, 1);
-    lists::set_made(rows, source as usize, row);
+    let before = lists::made_count(rows, source as usize, top);
+    lists::set_made_count(rows, source as usize, top, tables::plus(before, 1));
 }
 
 // The totals with the message and its hop.

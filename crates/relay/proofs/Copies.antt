@@ -33,8 +33,7 @@ use Rattle.model.proofs.Runs.{Valid, take-valid}
 use Rattle.model.proofs.Theorems.{valid-limits}
 use Rattle.routing.specs.Computed.{isChild, childrenOf, topology}
 use Rattle.tables.specs.Values.{plus, logged as write}
-use Rattle.hops.specs.declared.forwarding.Forwarding.{Forwarding}
-use Rattle.hops.specs.Access.{forwarded, forwardedHops}
+use Rattle.hops.specs.Access.{Forwarding, forwarded, forwardedHops}
 use Rattle.relay.specs.declared.arrival.Arrival.{Arrival}
 use Rattle.relay.specs.Machine.{groupFor, isMember, logCopy, outgoing, longerBy, afterCopy, takeArrival, takeHops, takeBook}
 use Rattle.relay.specs.State.{padded, logBook, messageTable}
@@ -270,8 +269,8 @@ module _ (P : Plan) (forest : Forest P) (ms : List Message) (hs : List Hop) (ls 
   pub copy-arrival : takeArrival a lent ≡ arrivalOf P W′ s r hold j end (suc n)
   unfolding takeArrival afterCopy arrivalOf hopsOf messagesOf forwardingOf
   copy-arrival =
-      ap (λ (k : ℕ). afterCopy a k (forwarded 32 (outgoing a k))) message-is
-      ∙ ap (afterCopy a m) forwarded-is
+      ap (λ (k : ℕ). let f = forwarded 32 (outgoing a k) in afterCopy a k (f .made) (f .counts)) message-is
+      ∙ ap (λ (f : Forwarding). afterCopy a m (f .made) (f .counts)) forwarded-is
       ∙ (λ i. record {
         topology = a .topology;
         groups = a .groups;

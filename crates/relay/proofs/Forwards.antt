@@ -20,8 +20,7 @@ use Rattle.model.specs.Rules.{push, rising, forward}
 use Rattle.model.proofs.Hops.{length-snoc}
 use Rattle.model.proofs.Progress.{forward-longer}
 use Rattle.tables.specs.Values.{plus}
-use Rattle.hops.specs.declared.forwarding.Forwarding.{Forwarding}
-use Rattle.hops.specs.Access.{isLeft, nextHop, afterNext, forwarded, forwardedHops}
+use Rattle.hops.specs.Access.{Forwarding, isLeft, nextHop, afterNext, forwarded, forwardedHops}
 use Rattle.relay.specs.State.{padded}
 use Rattle.relay.proofs.Padding.{plus-small, padded-length, padded-snoc, append-set, tabulate-at, added-at}
 use Rattle.relay.proofs.Sends.{count-made-here, count-made-row, count-few}

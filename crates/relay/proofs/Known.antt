@@ -12,10 +12,11 @@ use ghost.Atoms.{Atoms}
 use denote.Array.{Array}
 use denote.Builtin.{bool, unit, u8, u16, u32, usize}
 use Rattle.tables.specs.Values.{filled}
+use Rattle.hops.specs.Access.{withoutCounts}
 use Rattle.relay.specs.Machine.{isShort, freshResult, sendRefusal, firstHop, sentResult, received, outgoing, afterCopy}
 use Rattle.relay.specs.Machine.{searchFrom, searchEnd, movedTo, isGoing, settled, finishedResult, restReply}
 use Rattle.hops.proofs.Records.{R, by-hop}
-use Rattle.hops.proofs.Called.{F, by-forwarding}
+use Rattle.hops.proofs.Called.{O, by-outgoing}
 use Rattle.walks.proofs.Values.{ByValue, by-uint, by-bool, by-unit, by-struct, by-enum, by-array}
 use Rattle.walks.proofs.Calling.{value, lent, Callee}
 use Rattle.walks.proofs.ByRule.{stating, by-rule, the-list, result-and-lists}
@@ -51,6 +52,10 @@ by-arrived = by-struct Arrived.the-type Arrived′.the-laws Arrived′.the-plain
 abbrev pub by-rest-reply : ByValue RestReply.the-row
 by-rest-reply = by-enum RestReply.the-type RestReply′.the-laws tt RestReply′.the-plain RestReply′.the-copy RestReply′.lowers
 
+-- a row of counts
+abbrev pub by-counts : ByValue (Array u16 32)
+by-counts = by-array u16 (by-uint w16) 32
+
 -- ---- the functions by value
 module _ {M : Type 1} (𝓤 : URA M) (H : Heap 𝓤) (A : Atoms 𝓤) where
   -- of arrival.rt
@@ -74,16 +79,16 @@ module _ {M : Type 1} (𝓤 : URA M) (H : Heap 𝓤) (A : Atoms 𝓤) where
   abbrev pub is-going-callee : Callee 𝓤 H A
   is-going-callee = by-rule 𝓤 H A (value Arrival.the-row by-arrival ∷ []) bool by-bool (λ d. isGoing (d .0))
 
-  abbrev pub message-of-callee : Callee 𝓤 H A
-  message-of-callee = by-rule 𝓤 H A (value R by-hop ∷ []) u16 (by-uint w16) (λ d. d .0 .message)
-
   abbrev pub outgoing-callee : Callee 𝓤 H A
-  outgoing-callee = by-rule 𝓤 H A (value Arrival.the-row by-arrival ∷ value u16 (by-uint w16) ∷ []) F by-forwarding (λ d. outgoing (d .0) (d .1 .0))
+  outgoing-callee = by-rule 𝓤 H A (value Arrival.the-row by-arrival ∷ value u16 (by-uint w16) ∷ []) O by-outgoing (λ d. withoutCounts (outgoing (d .0) (d .1 .0)))
+
+  abbrev pub counts-of-callee : Callee 𝓤 H A
+  counts-of-callee = by-rule 𝓤 H A (value Arrival.the-row by-arrival ∷ []) (Array u16 32) by-counts (λ d. d .0 .counts)
 
   abbrev pub after-copy-callee : Callee 𝓤 H A
   after-copy-callee =
-      by-rule 𝓤 H A (value Arrival.the-row by-arrival ∷ value u16 (by-uint w16) ∷ value F by-forwarding ∷ []) Arrival.the-row by-arrival
-      (λ d. afterCopy (d .0) (d .1 .0) (d .1 .1 .0))
+      by-rule 𝓤 H A (value Arrival.the-row by-arrival ∷ value u16 (by-uint w16) ∷ value u16 (by-uint w16) ∷ value (Array u16 32) by-counts ∷ []) Arrival.the-row by-arrival
+      (λ d. afterCopy (d .0) (d .1 .0) (d .1 .1 .0) (d .1 .1 .1 .0))
 
   abbrev pub search-from-callee : Callee 𝓤 H A
   search-from-callee = by-rule 𝓤 H A (value Arrival.the-row by-arrival ∷ []) usize (by-uint w64) (λ d. searchFrom (d .0))

@@ -11,8 +11,7 @@ use Rattle.model.specs.Network.{noHop, hopAt, setState, isOut, isHeld}
 use Rattle.model.specs.Rules.{refuse}
 use Rattle.routing.specs.Computed.{topology}
 use Rattle.tables.specs.Values.{plus, byte, filled, rowOf, added, noCounts, noMessages, recorded, logged}
-use Rattle.hops.specs.Access.{nextOfPair, forwarded, forwardedHops}
-use Rattle.hops.specs.declared.forwarding.Forwarding.{Forwarding}
+use Rattle.hops.specs.Access.{nextOfPair, Forwarding, forwarded, forwardedHops}
 use Rattle.relay.specs.declared.Bench.{Bench}
 use Rattle.relay.specs.declared.Fresh.{Fresh}
 use Rattle.relay.specs.declared.Sent.{Sent}
@@ -179,8 +178,8 @@ unfoldable pub longerBy : Arrival → ℕ → ℕ
 longerBy a m = cond (isMember a m) (plus (a .length) 1) (a .length)
 
 -- the arrival with other counts, and with another place
-unfoldable pub afterCopy : Arrival → ℕ → Forwarding → Arrival
-afterCopy a m f = record {
+unfoldable pub afterCopy : Arrival → ℕ → (made : ℕ) → (counts : List ℕ) → Arrival
+afterCopy a m made counts = record {
   topology = a .topology;
   groups = a .groups;
   sender = a .sender;
@@ -193,8 +192,8 @@ afterCopy a m f = record {
   left = a .left - 1;
   taken = plus (a .taken) 1;
   length = longerBy a m;
-  made = f .made;
-  counts = f .counts;
+  made = made;
+  counts = counts;
 }
 
 unfoldable pub moveTo : Arrival → ℕ → Arrival
@@ -216,7 +215,7 @@ moveTo a i = record {
 }
 
 unfoldable pub takeArrival : Arrival → List Hop → Arrival
-takeArrival a hs = let m = hopAt hs (a .at) .message in afterCopy a m (forwarded 32 (outgoing a m))
+takeArrival a hs = let m = hopAt hs (a .at) .message in let f = forwarded 32 (outgoing a m) in afterCopy a m (f .made) (f .counts)
 
 unfoldable pub takeHops : Arrival → List Hop → List Hop
 takeHops a hs = forwardedHops 32 (outgoing a (hopAt hs (a .at) .message)) (setState (a .at) 2 hs)

@@ -6,6 +6,7 @@ ghost use mathlib.Core.Path.{_≡_};
 ghost use mathlib.Core.Bool.{cond};
 ghost use Prim.Native.Nat.{_-_};
 ghost use lib.ListN.{getD};
+ghost use Rattle.hops.specs.Access.{withoutCounts};
 ghost use Rattle.relay.specs.Machine.{countOf, arriveRefusal, isOpen, isNext, received as receivedOf, groupFor, isMember, logCopy};
 ghost use Rattle.relay.specs.Machine.{outgoing as outgoingOf, longerBy, afterCopy, takeArrival, takeHops, takeBook, searchFrom, searchEnd};
 ghost use Rattle.relay.specs.Machine.{movedTo, nextArrival, isGoing, settled, updatedBench, finishedReply, finishedResult};
@@ -166,13 +167,6 @@ fn is_going(a: Arrival) -> bool
     a.at < a.end
 }
 
-// The message of a hop.
-fn message_of(hop: model::Hop) -> u16
-    ensures { λ r. ⌜ r ≡ hop .message ⌝ }
-{
-    hop.message
-}
-
 // The group of message m.
 fn group_for(a: Arrival, m: u16) -> usize
     ensures { λ r. ⌜ r ≡ groupFor a m ⌝ }
@@ -200,20 +194,25 @@ fn log_copy(a: Arrival, m: u16, book: &mut [u16])
 }
 
 // The hops to make: one to each child of the receiver that is on the route of the message's group.
-fn outgoing(a: Arrival, m: u16) -> hops::Forwarding
-    ensures { λ r. ⌜ r ≡ outgoingOf a m ⌝ }
+fn outgoing(a: Arrival, m: u16) -> hops::Outgoing
+    ensures { λ r. ⌜ r ≡ withoutCounts (outgoingOf a m) ⌝ }
 {
     let g = group_for(a, m);
     let route = routing::route(a.topology, g);
     let below = routing::child_set(a.topology, a.receiver as usize);
-    let counts = a.counts;
-    hops::Forwarding {
+    hops::Outgoing {
         sender: a.receiver,
         message: m,
         children: sets::intersection(below, route),
         made: a.made,
-        counts,
     }
+}
+
+// How many hops were made from the receiver to each unit.
+fn counts_of(a: Arrival) -> [u16; 32]
+    ensures { λ r. ⌜ r ≡ a .counts ⌝ }
+{
+    a.counts
 }
 
 // The length of the receiver's log once it took message m.
@@ -226,16 +225,15 @@ fn longer(a: Arrival, m: u16) -> u16
     a.length
 }
 
-// The arrival once the copy of message m was taken and the hops f were made.
-fn after_copy(a: Arrival, m: u16, f: hops::Forwarding) -> Arrival
-    ensures { λ r. ⌜ r ≡ afterCopy a m f ⌝ }
+// The arrival once the copy of message m was taken: so many hops are made, and so many from the receiver to each unit.
+fn after_copy(a: Arrival, m: u16, made: u16, counts: [u16; 32]) -> Arrival
+    ensures { λ r. ⌜ r ≡ afterCopy a m made counts ⌝ }
 {
     let mut next = a;
-    let counts = f.counts;
     next.left = less(a.left, 1);
     next.taken = tables::plus(a.taken, 1);
     next.length = longer(a, m);
-    next.made = f.made;
+    next.made = made;
     next.counts = counts;
     next
 }
@@ -247,13 +245,13 @@ fn take(a: Arrival, hops: &mut [model::Hop], book: &mut [u16]) -> Arrival
         × (now (book .exit) ≡ takeBook a (now (hops .entry)) (now (book .entry))) ⌝ }
 {
     let at = place(a);
-    let hop = hops::read(hops, at);
-    let m = message_of(hop);
+    let m = hops::message_at(hops, at);
     hops::set_state(hops, at, 2);
     log_copy(a, m, book);
     let start = outgoing(a, m);
-    let made = hops::forward(hops, start);
-    after_copy(a, m, made)
+    let mut counts = counts_of(a);
+    let made = hops::forward(hops, &mut counts, start);
+    after_copy(a, m, made, counts)
 }
 
 // Where the search for the pair's next hop begins.

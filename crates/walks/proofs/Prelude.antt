@@ -25,7 +25,7 @@ unfoldable pub use contract.Running.{tablesOf}
 pub use types.Kit.{Given, Item, Sq, runs, atRet, anyQ, ‵, _$_, !, move, drop, rewrite, check, done}
 pub use types.Run.{look, init, store, look-raw, store-raw, forget, stop, hop, fld, from, addr, load, lit, unit-lit, of-opd, no-more, bin, assigns-last, first, blocks, exec}
 pub use types.Run.{again, loops, returns, returns-within}
-pub use types.Part.{whole, sub, store-in, agg}
+pub use types.Part.{whole, sub, look-in, store-in, agg}
 pub use denote.Laws.{Is}
 pub use denote.Builtin.{u8, u16, usize}
 pub use denote.Index.{place-is}

@@ -20,17 +20,11 @@ cast-s c = search needs
 cast-r : tie.Need-cast-r
 cast-r c = search needs
 
-made-row-requires : tie.Need-made-row-requires
-made-row-requires c κs = search needs
+made-count-requires : tie.Need-made-count-requires
+made-count-requires c κs = search needs
 
-taken-row-requires : tie.Need-taken-row-requires
-taken-row-requires c κs = search needs
-
-at-requires : tie.Need-at-requires
-at-requires c κs = search needs
-
-at-requires-2 : tie.Need-at-requires-2
-at-requires-2 c κs = search needs
+taken-count-requires : tie.Need-taken-count-requires
+taken-count-requires c κs = search needs
 
 is-next-requires : tie.Need-is-next-requires
 is-next-requires c κs = search needs
@@ -41,12 +35,6 @@ cast-end c = search needs
 choose-requires : tie.Need-choose-requires
 choose-requires c κs = search needs
 
-row-at-requires : tie.Need-row-at-requires
-row-at-requires c κs = search needs
-
-made-row-requires-2 : tie.Need-made-row-requires-2
-made-row-requires-2 c κs = search needs
-
 choose-requires-2 : tie.Need-choose-requires-2
 choose-requires-2 c κs = search needs
 
@@ -56,29 +44,23 @@ choose-requires-3 c κs = search needs
 less-requires : tie.Need-less-requires
 less-requires c κs = search needs
 
-at-requires-3 : tie.Need-at-requires-3
-at-requires-3 c κs = search needs
+number-in-requires : tie.Need-number-in-requires
+number-in-requires c κs = search needs
 
 returns : tie.Need-returns
 unfolding passageOf received benchIn countOf rowOf madeRow takenRow isOut
 returns c =
-    let choose = c .before .before in let choose-a = choose .before in let made-row = choose-a .before .before in let row-at = made-row .before in
-    let choose-b = row-at .before in let is-next = choose-b .before .before in let at = is-next .before in let at-a = at .before in
-    let taken-row = at-a .before in let made-row-a = taken-row .before in let is-open = made-row-a .before .before .before in
-    let refusal = is-open .before in let start = refusal .before in
+    let choose = c .before .before in let choose-a = choose .before in let choose-b = choose-a .before .before in let is-next = choose-b .before .before in
+    let taken = is-next .before in let made = taken .before in let is-open = made .before .before .before in let refusal = is-open .before in let start = refusal .before in
     rw (
-      c .at3 .ensures,
+      c .number-in .ensures,
       c .before .less .ensures,
       choose .choose3 .ensures,
       choose-a .choose2 .ensures,
-      made-row .made-row2 .ensures,
-      row-at .row-at .ensures,
       choose-b .choose .ensures,
       is-next .is-next .ensures,
-      at .at2 .ensures,
-      at-a .at .ensures,
-      taken-row .taken-row .ensures,
-      made-row-a .made-row .ensures,
+      taken .taken-count .ensures,
+      made .made-count .ensures,
       is-open .is-open .ensures,
       refusal .refusal .ensures,
       missing-row (start .args .rows .now) 64 (start .args .h .receiver),
@@ -92,17 +74,13 @@ begun-spec =
     is-open-requires
     cast-s
     cast-r
-    made-row-requires
-    taken-row-requires
-    at-requires
-    at-requires-2
+    made-count-requires
+    taken-count-requires
     is-next-requires
     cast-end
     choose-requires
-    row-at-requires
-    made-row-requires-2
     choose-requires-2
     choose-requires-3
     less-requires
-    at-requires-3
+    number-in-requires
     returns)

@@ -5,26 +5,24 @@ use Rattle.walks.proofs.Prelude.{Goes, starts, duty, own-tables, proved-own, va
 use denote.Builtin.{u32}
 use Rattle.model.specs.declared.Hop.{Hop}
 use Rattle.model.specs.Network.{hopAt, setState}
-use Rattle.hops.specs.declared.forwarding.Forwarding.{Forwarding}
-use Rattle.hops.specs.Access.{forwarded, forwardedHops}
+use Rattle.hops.specs.declared.forwarding.Outgoing.{Outgoing}
+use Rattle.hops.specs.Access.{Forwarding, withCounts, forwarded, forwardedHops}
 use Rattle.relay.specs.Machine.{groupFor, isMember, logCopy, outgoing, longerBy, afterCopy, takeArrival, takeHops, takeBook}
-use Rattle.hops.proofs.Records.{R, typed}
-use Rattle.hops.proofs.Called.{by-forwarding, read-shown-callee, set-state-callee, forward-callee}
-use Rattle.hops.proofs.read.Symbol as read-def
-use Rattle.hops.proofs.read.Met as read-thm
+use Rattle.hops.proofs.Records.{R}
+use Rattle.hops.proofs.Called.{by-outgoing, message-at-shown-callee, set-state-callee, forward-callee}
+use Rattle.hops.proofs.message_at.Symbol as message-at-def
+use Rattle.hops.proofs.message_at.Met as message-at-thm
 use Rattle.hops.proofs.set_state.Symbol as set-state-def
 use Rattle.hops.proofs.set_state.Met as set-state-thm
 use Rattle.hops.proofs.forward.Symbol as forward-def
 use Rattle.hops.proofs.forward.Met as forward-thm
 use Rattle.in_place.specs.declared.arriving.Passage.{Passage}
 use Rattle.in_place.specs.declared.arriving.Delivery.{Delivery}
-use Rattle.in_place.specs.InPlace.{topologyIn, passageOf, arrivalIn, deliveryIn, logDelivery, outgoingOf, afterLength, afterDelivery, takeIn}
-use Rattle.in_place.proofs.Known.{by-passage, by-delivery, place-callee, message-of-callee, receiver-callee, delivery-to-callee, log-copy-callee, outgoing-callee}
+use Rattle.in_place.specs.InPlace.{topologyIn, passageOf, arrivalIn, deliveryIn, logDelivery, outgoingOf, afterLength, afterDelivery}
+use Rattle.in_place.proofs.Known.{by-passage, by-delivery, place-callee, receiver-callee, delivery-to-callee, log-copy-callee, outgoing-callee}
 use Rattle.in_place.proofs.Known.{after-copy-callee, take-callee}
 use Rattle.in_place.proofs.arriving.place.Symbol as place-def
 use Rattle.in_place.proofs.arriving.place.Met as place-thm
-use Rattle.in_place.proofs.arriving.message_of.Symbol as message-of-def
-use Rattle.in_place.proofs.arriving.message_of.Met as message-of-thm
 use Rattle.in_place.proofs.arriving.receiver.Symbol as receiver-def
 use Rattle.in_place.proofs.arriving.receiver.Met as receiver-thm
 use Rattle.in_place.proofs.arriving.delivery_to.Symbol as delivery-to-def
@@ -43,8 +41,7 @@ use Rattle.in_place.proofs.arriving.take.Code.Mir.{locals}
 -- the contracts of the functions called
 record Known {M : Type 1} (𝓤 : URA M) (H : Heap 𝓤) (A : Atoms 𝓤) (𝓣 : Tables 𝓤 H) : Type 2 where
   of-place : Triple 𝓤 (𝓣 .C place-def.name) (contractOf (place-callee 𝓤 H A))
-  of-read : Triple 𝓤 (𝓣 .C read-def.name) (contractOf (read-shown-callee 𝓤 H A))
-  of-message : Triple 𝓤 (𝓣 .C message-of-def.name) (contractOf (message-of-callee 𝓤 H A))
+  of-message : Triple 𝓤 (𝓣 .C message-at-def.name) (contractOf (message-at-shown-callee 𝓤 H A))
   of-set-state : Triple 𝓤 (𝓣 .C set-state-def.name) (contractOf (set-state-callee 𝓤 H A))
   of-receiver : Triple 𝓤 (𝓣 .C receiver-def.name) (contractOf (receiver-callee 𝓤 H A))
   of-delivery : Triple 𝓤 (𝓣 .C delivery-to-def.name) (contractOf (delivery-to-callee 𝓤 H A))
@@ -58,62 +55,63 @@ module _ {M : Type 1} (𝓤 : URA M) (H : Heap 𝓤) (A : Atoms 𝓤) (W : Given
   self = duty (take-callee 𝓤 H A)
 
   walk : (h : Handed (self .passes)) → Fit (self .passes) h → Rooms (self .passes) h → Goes self 𝓣 code.function h
-  unfolding takeIn takeArrival takeHops takeBook passageOf arrivalIn topologyIn deliveryIn logDelivery outgoingOf afterLength afterDelivery outgoing logCopy isMember groupFor longerBy afterCopy
+  unfolding takeArrival takeHops takeBook passageOf arrivalIn topologyIn deliveryIn logDelivery outgoingOf withCounts afterLength afterDelivery outgoing logCopy isMember groupFor longerBy afterCopy
   walk h fit rooms =
       let fm = fmOf 𝓤 H (W .laws) 𝓣 in
       let p : Passage = h .0 in let I : Loan = h .1 .0 .0 in let ts : List ℕ = h .1 .0 .1 in let J : Loan = h .1 .1 .0 .0 in let ms : List ℕ = h .1 .1 .0 .1 in
-      let L : Loan = h .1 .1 .1 .0 .0 in let hs : List Hop = h .1 .1 .1 .0 .1 in let N : Loan = h .1 .1 .1 .1 .0 .0 in let book : List ℕ = h .1 .1 .1 .1 .0 .1 in
+      let C : Loan = h .1 .1 .1 .0 .0 in let cs : List ℕ = h .1 .1 .1 .0 .1 in let L : Loan = h .1 .1 .1 .1 .0 .0 in let hs : List Hop = h .1 .1 .1 .1 .0 .1 in
+      let N : Loan = h .1 .1 .1 .1 .1 .0 .0 in let book : List ℕ = h .1 .1 .1 .1 .1 .0 .1 in
       let p-is = fit .0 in
-      let hops-room : WT (vint w64 (L .count)) = record { fits = rooms .1 .1 .0 .0 .0 } in let book-room : WT (vint w64 (N .count)) = record { fits = rooms .1 .1 .1 .0 .0 .0 } in
+      let counts-room : WT (vint w64 (C .count)) = record { fits = rooms .1 .1 .0 .0 .0 } in let hops-room : WT (vint w64 (L .count)) = record { fits = rooms .1 .1 .1 .0 .0 .0 } in
+      let book-room : WT (vint w64 (N .count)) = record { fits = rooms .1 .1 .1 .1 .0 .0 .0 } in
       let m : ℕ = hopAt hs (p .at) .message in let d : Delivery = deliveryIn ts ms (p .receiver) m in
-      let start : Forwarding = outgoingOf p d in let made : Forwarding = forwarded 32 start in
+      let start : Outgoing = outgoingOf p d in let made : Forwarding = forwarded 32 (withCounts cs start) in
       let set-hops : List Hop = setState (p .at) 2 hs in let logged-book : List ℕ = logDelivery p d book in
       starts W self 𝓣 code.function h (suited W (self .passes) h fit rooms) (λ bs.
-      -- [tables; messages; hops; book; the locals, the last first]
-      calls ! fm (place-callee 𝓤 H A) (known .of-place) (p, tt) (p-is, tt) tt refl (var ! 44 refl & no-more !) (λ at-is. into ! (init ! 34 refl (tt, record { fits = at-is .1 })) $
-      sets ! (ptr-of ! 38 refl refl) (init ! 20 refl (tt, tt)) $ sets ! (slice-of ! 20 38 refl refl refl) (init ! 18 refl (tt, (tt, (hops-room, tt)))) $
-      move ! (2 ∷ []) $
-      -- [hops; tables; messages; book]
-      calls ! fm (read-shown-callee 𝓤 H A) (known .of-read) ((L, hs), (p .at, tt)) (at-is, tt) tt refl (var ! 18 refl & var ! 34 refl & no-more !) (λ hop-is.
-      into ! (init ! 32 refl (typed (hopAt hs (p .at)) hop-is)) $
-      calls ! fm (message-of-callee 𝓤 H A) (known .of-message) (hopAt hs (p .at), tt) (hop-is, tt) tt refl (var ! 32 refl & no-more !) (λ m-is.
-      into ! (init ! 30 refl (tt, record { fits = m-is .1 })) $
-      sets ! (ptr-of ! 38 refl refl) (init ! 14 refl (tt, tt)) $ sets ! (slice-of ! 14 38 refl refl refl) (init ! 12 refl (tt, (tt, (hops-room, tt)))) $
+      -- [tables; messages; counts; hops; book; the locals, the last first]
+      calls ! fm (place-callee 𝓤 H A) (known .of-place) (p, tt) (p-is, tt) tt refl (var ! 49 refl & no-more !) (λ at-is. into ! (init ! 37 refl (tt, record { fits = at-is .1 })) $
+      sets ! (ptr-of ! 41 refl refl) (init ! 25 refl (tt, tt)) $ sets ! (slice-of ! 25 41 refl refl refl) (init ! 23 refl (tt, (tt, (hops-room, tt)))) $
+      move ! (3 ∷ []) $
+      -- [hops; tables; messages; counts; book]
+      calls ! fm (message-at-shown-callee 𝓤 H A) (known .of-message) ((L, hs), (p .at, tt)) (at-is, tt) tt refl (var ! 23 refl & var ! 37 refl & no-more !) (λ m-is.
+      into ! (init ! 35 refl (tt, record { fits = m-is .1 })) $
+      sets ! (ptr-of ! 41 refl refl) (init ! 19 refl (tt, tt)) $ sets ! (slice-of ! 19 41 refl refl refl) (init ! 17 refl (tt, (tt, (hops-room, tt)))) $
       calls ! fm (set-state-callee 𝓤 H A) (known .of-set-state) ((L, hs), (p .at, (2, tt))) (at-is, ((refl, omega arith), tt)) tt refl
-      (var ! 12 refl & var ! 34 refl & lit ! tt & no-more !) (λ _. into ! (init ! 16 refl (tt, tt)) $
-      calls ! fm (receiver-callee 𝓤 H A) (known .of-receiver) (p, tt) (p-is, tt) tt refl (var ! 44 refl & no-more !) (λ to-is. into ! (init ! 28 refl (tt, record { fits = to-is .1 })) $
+      (var ! 17 refl & var ! 37 refl & lit ! tt & no-more !) (λ _. into ! (init ! 21 refl (tt, tt)) $
+      calls ! fm (receiver-callee 𝓤 H A) (known .of-receiver) (p, tt) (p-is, tt) tt refl (var ! 49 refl & no-more !) (λ to-is. into ! (init ! 33 refl (tt, record { fits = to-is .1 })) $
       move ! (1 ∷ 2 ∷ []) $
-      -- [tables; messages; hops; book]
+      -- [tables; messages; hops; counts; book]
       calls ! fm (delivery-to-callee 𝓤 H A) (known .of-delivery) (p .receiver, (m, ((I, ts), ((J, ms), tt)))) (to-is, (m-is, tt)) tt refl
-      (var ! 28 refl & var ! 30 refl & var ! 42 refl & var ! 40 refl & no-more !) (λ d-is. into ! (init ! 26 refl (stored W by-delivery d d-is .0)) $
-      sets ! (ptr-of ! 36 refl refl) (init ! 10 refl (tt, tt)) $ sets ! (slice-of ! 10 36 refl refl refl) (init ! 8 refl (tt, (tt, (book-room, tt)))) $
-      move ! (3 ∷ []) $
-      -- [book; tables; messages; hops]
-      calls ! fm (log-copy-callee 𝓤 H A) (known .of-log-copy) (p, (d, ((N, book), tt))) (p-is, (d-is, tt)) tt refl (var ! 44 refl & var ! 26 refl & var ! 8 refl & no-more !) (λ _.
-      into ! (store ! 16 refl (tt, tt)) $
-      calls ! fm (outgoing-callee 𝓤 H A) (known .of-outgoing) (p, (d, tt)) (p-is, (d-is, tt)) tt refl (var ! 44 refl & var ! 26 refl & no-more !) (λ start-is.
-      into ! (init ! 24 refl (stored W by-forwarding start start-is .0)) $
-      sets ! (ptr-of ! 38 refl refl) (init ! 6 refl (tt, tt)) $ sets ! (slice-of ! 6 38 refl refl refl) (init ! 4 refl (tt, (tt, (hops-room, tt)))) $
-      move ! (3 ∷ []) $
-      -- [hops; book; tables; messages]
-      calls ! fm (forward-callee 𝓤 H A) (known .of-forward) ((L, set-hops), (start, tt)) (start-is, tt) tt refl (var ! 4 refl & var ! 24 refl & no-more !) (λ made-is.
-      into ! (init ! 22 refl (stored W by-forwarding made made-is .0)) $
-      calls ! fm (after-copy-callee 𝓤 H A) (known .of-after-copy) (p, (d, (made, tt))) (p-is, (d-is, (made-is, tt))) tt refl
-      (var ! 44 refl & var ! 26 refl & var ! 22 refl & no-more !) (λ r-is. into ! (init ! 46 refl (stored W by-passage (afterDelivery p d made) r-is .0)) $
-      move ! (2 ∷ 3 ∷ 0 ∷ 1 ∷ []) $ returns ! (look ! 46 refl) $
-      leaves ! (‵ (Views u32 I ts) ∷ ‵ (Views u16 J ms) ∷ ‵ (Holds R L (forwardedHops 32 start set-hops)) ∷ ‵ (Holds u16 N logged-book) ∷ []) locals bs (full locals _) tt $
-      check ! r-is $ done !)))))))))))
+      (var ! 33 refl & var ! 35 refl & var ! 47 refl & var ! 45 refl & no-more !) (λ d-is. into ! (init ! 31 refl (stored W by-delivery d d-is .0)) $
+      sets ! (ptr-of ! 39 refl refl) (init ! 15 refl (tt, tt)) $ sets ! (slice-of ! 15 39 refl refl refl) (init ! 13 refl (tt, (tt, (book-room, tt)))) $
+      move ! (4 ∷ []) $
+      -- [book; tables; messages; hops; counts]
+      calls ! fm (log-copy-callee 𝓤 H A) (known .of-log-copy) (p, (d, ((N, book), tt))) (p-is, (d-is, tt)) tt refl (var ! 49 refl & var ! 31 refl & var ! 13 refl & no-more !) (λ _.
+      into ! (store ! 21 refl (tt, tt)) $
+      calls ! fm (outgoing-callee 𝓤 H A) (known .of-outgoing) (p, (d, tt)) (p-is, (d-is, tt)) tt refl (var ! 49 refl & var ! 31 refl & no-more !) (λ start-is.
+      into ! (init ! 29 refl (stored W by-outgoing start start-is .0)) $
+      sets ! (ptr-of ! 41 refl refl) (init ! 11 refl (tt, tt)) $ sets ! (slice-of ! 11 41 refl refl refl) (init ! 9 refl (tt, (tt, (hops-room, tt)))) $
+      sets ! (ptr-of ! 43 refl refl) (init ! 7 refl (tt, tt)) $ sets ! (slice-of ! 7 43 refl refl refl) (init ! 5 refl (tt, (tt, (counts-room, tt)))) $
+      move ! (3 ∷ 4 ∷ []) $
+      -- [hops; counts; book; tables; messages]
+      calls ! fm (forward-callee 𝓤 H A) (known .of-forward) ((L, set-hops), ((C, cs), (start, tt))) (start-is, tt) tt refl (var ! 9 refl & var ! 5 refl & var ! 29 refl & no-more !) (λ made-is.
+      into ! (init ! 27 refl (tt, record { fits = made-is .1 })) $
+      calls ! fm (after-copy-callee 𝓤 H A) (known .of-after-copy) (p, (d, (made .made, tt))) (p-is, (d-is, (made-is, tt))) tt refl
+      (var ! 49 refl & var ! 31 refl & var ! 27 refl & no-more !) (λ r-is. into ! (init ! 51 refl (stored W by-passage (afterDelivery p d (made .made)) r-is .0)) $
+      move ! (3 ∷ 4 ∷ 1 ∷ []) $ returns ! (look ! 51 refl) $
+      leaves ! (‵ (Views u32 I ts) ∷ ‵ (Views u16 J ms) ∷ ‵ (Holds u16 C (made .counts)) ∷ ‵ (Holds R L (forwardedHops 32 (withCounts cs start) set-hops)) ∷ ‵ (Holds u16 N logged-book) ∷ [])
+      locals bs (full locals _) tt $
+      check ! r-is $ done !))))))))))
 
 pub take-spec : {M : Type 1} → stated.statement M
 unfolding code.routine tablesOf
 take-spec 𝓤 H 𝓜 𝓖 𝓡 =
     let A = 𝓖 .A in
     proved-own 𝓤 H 𝓜 𝓖 𝓡 code.env (take-callee 𝓤 H A) tt (λ κs qs. refl) (λ κs qs a g. factI 𝓤 (Unit {0}) _ tt)
-    (λ κs qs a g ws _ e. factI 𝓤 _ (emp 𝓤) (refl, ap (λ es. es .0) e, ap (λ es. es .1 .0) e))
+    (λ κs qs a g ws _ e. factI 𝓤 _ (emp 𝓤) (refl, ap (λ es. es .0) e, ap (λ es. es .1 .0) e, ap (λ es. es .1 .1 .0) e))
     #take code.function (code.unfolded 𝓤 H 𝓜 𝓡) (λ h fit rooms _. walk 𝓤 H A (givenOf 𝓤 H 𝓜 𝓖) (own-tables 𝓤 H 𝓜 𝓖 𝓡 code.env) record {
       of-place = cited 𝓤 H _ 𝓜 𝓡 code.env place-def.name _ code.calls-in-place·arriving·place (place-thm.met 𝓤 H 𝓜 𝓖 𝓡);
-      of-read = cited 𝓤 H _ 𝓜 𝓡 code.env read-def.name _ code.calls-hops·read (read-thm.met 𝓤 H 𝓜 𝓖 𝓡);
-      of-message = cited 𝓤 H _ 𝓜 𝓡 code.env message-of-def.name _ code.calls-in-place·arriving·message-of (message-of-thm.met 𝓤 H 𝓜 𝓖 𝓡);
+      of-message = cited 𝓤 H _ 𝓜 𝓡 code.env message-at-def.name _ code.calls-hops·message-at (message-at-thm.met 𝓤 H 𝓜 𝓖 𝓡);
       of-set-state = cited 𝓤 H _ 𝓜 𝓡 code.env set-state-def.name _ code.calls-hops·set-state (set-state-thm.met 𝓤 H 𝓜 𝓖 𝓡);
       of-receiver = cited 𝓤 H _ 𝓜 𝓡 code.env receiver-def.name _ code.calls-in-place·arriving·receiver (receiver-thm.met 𝓤 H 𝓜 𝓖 𝓡);
       of-delivery = cited 𝓤 H _ 𝓜 𝓡 code.env delivery-to-def.name _ code.calls-in-place·arriving·delivery-to (delivery-to-thm.met 𝓤 H 𝓜 𝓖 𝓡);

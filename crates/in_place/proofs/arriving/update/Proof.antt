@@ -1,5 +1,6 @@
--- Each row is what its call answers.
+-- Each number is what its call answers.
 use borrow.Author.Needs.{needs}
+use Rattle.tables.specs.Values.{added}
 use Rattle.in_place.specs.InPlace.{updatedRows}
 use Rattle.in_place.proofs.arriving.update.Statement.{statement}
 use Rattle.in_place.proofs.arriving.update.Tie as tie
@@ -10,36 +11,29 @@ cast-s c = search needs
 cast-r : tie.Need-cast-r
 cast-r c = search needs
 
-taken-row-requires : tie.Need-taken-row-requires
-taken-row-requires c κs = search needs
-
-added-requires : tie.Need-added-requires
-added-requires c κs = search needs
-
-row-at-requires : tie.Need-row-at-requires
-row-at-requires c κs = search needs
-
-with-length-requires : tie.Need-with-length-requires
-with-length-requires c κs = search needs
-
 set-made-requires : tie.Need-set-made-requires
 set-made-requires c κs = search needs
 
-set-taken-requires : tie.Need-set-taken-requires
-set-taken-requires c κs = search needs
+taken-count-requires : tie.Need-taken-count-requires
+taken-count-requires c κs = search needs
 
-set-row-requires : tie.Need-set-row-requires
-set-row-requires c κs = search needs
+plus-requires : tie.Need-plus-requires
+plus-requires c κs = search needs
+
+set-taken-count-requires : tie.Need-set-taken-count-requires
+set-taken-count-requires c κs = search needs
+
+set-number-requires : tie.Need-set-number-requires
+set-number-requires c κs = search needs
 
 same-length : tie.Need-same-length
 same-length c = search needs
 
 returns : tie.Need-returns
-unfolding updatedRows
+unfolding updatedRows added
 returns c =
-    let set-taken = c .before .before .before .before in let set-made = set-taken .before .before .before in let with-length = set-made .before .before in
-    let row-at = with-length .before in let added = row-at .before .before in let taken-row = added .before in
-    rw (c .before .set-row .ensures, set-taken .set-taken .ensures, set-made .set-made .ensures, with-length .with-length .ensures, row-at .row-at .ensures, added .added .ensures, taken-row .taken-row .ensures)
+    let set-taken = c .before .before .before .before in let plus = set-taken .before in let count = plus .before .before in let set-made = count .before .before .before in
+    rw (c .before .set-number .ensures, set-taken .set-taken-count .ensures, plus .plus .ensures, count .taken-count .ensures, set-made .set-made .ensures)
 
 pub update-spec : {M : Type 1} → statement M
 update-spec =
@@ -47,12 +41,10 @@ update-spec =
     (tie.spec
     cast-s
     cast-r
-    taken-row-requires
-    added-requires
-    row-at-requires
-    with-length-requires
     set-made-requires
-    set-taken-requires
-    set-row-requires
+    taken-count-requires
+    plus-requires
+    set-taken-count-requires
+    set-number-requires
     same-length
     returns)

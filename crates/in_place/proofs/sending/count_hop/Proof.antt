@@ -1,5 +1,6 @@
--- The row is what the calls answer.
+-- The count is what the calls answer.
 use borrow.Author.Needs.{needs}
+use Rattle.tables.specs.Values.{added}
 use Rattle.in_place.specs.InPlace.{recordedRows}
 use Rattle.in_place.proofs.sending.count_hop.Statement.{statement}
 use Rattle.in_place.proofs.sending.count_hop.Tie as tie
@@ -10,21 +11,23 @@ primary-requires c κs = search needs
 cast-top : tie.Need-cast-top
 cast-top c = search needs
 
-made-row-requires : tie.Need-made-row-requires
-made-row-requires c κs = search needs
+made-count-requires : tie.Need-made-count-requires
+made-count-requires c κs = search needs
 
-added-requires : tie.Need-added-requires
-added-requires c κs = search needs
+plus-requires : tie.Need-plus-requires
+plus-requires c κs = search needs
 
-set-made-requires : tie.Need-set-made-requires
-set-made-requires c κs = search needs
+set-made-count-requires : tie.Need-set-made-count-requires
+set-made-count-requires c κs = search needs
 
 same-length : tie.Need-same-length
 same-length c = search needs
 
 returns : tie.Need-returns
-unfolding recordedRows
-returns c = rw (c .before .set-made .ensures, c .before .before .before .added .ensures, c .before .before .before .before .made-row .ensures, c .before .before .before .before .before .before .primary .ensures)
+unfolding recordedRows added
+returns c =
+    let plus = c .before .before in let count = plus .before .before in let primary = count .before .before in
+    rw (c .before .set-made-count .ensures, plus .plus .ensures, count .made-count .ensures, primary .primary .ensures)
 
 pub count-hop-spec : {M : Type 1} → statement M
 count-hop-spec =
@@ -32,8 +35,8 @@ count-hop-spec =
     (tie.spec
     primary-requires
     cast-top
-    made-row-requires
-    added-requires
-    set-made-requires
+    made-count-requires
+    plus-requires
+    set-made-count-requires
     same-length
     returns)

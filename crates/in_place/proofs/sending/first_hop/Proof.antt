@@ -9,14 +9,11 @@ use Rattle.in_place.proofs.sending.first_hop.Tie as tie
 primary-requires : tie.Need-primary-requires
 primary-requires c κs = search needs
 
-made-row-requires : tie.Need-made-row-requires
-made-row-requires c κs = search needs
+cast-made-count : tie.Need-cast-made-count
+cast-made-count c = search needs
 
-cast-at : tie.Need-cast-at
-cast-at c = search needs
-
-at-requires : tie.Need-at-requires
-at-requires c κs = search needs
+made-count-requires : tie.Need-made-count-requires
+made-count-requires c κs = search needs
 
 byte-requires : tie.Need-byte-requires
 byte-requires c κs = search needs
@@ -30,17 +27,16 @@ plus-requires-2 c κs = search needs
 returns : tie.Need-returns
 unfolding firstHop countOf rowOf benchIn topologyIn messagesIn madeRow
 returns c =
-    let byte = c .before .before in let at = byte .before in let made-row = at .before in let primary = made-row .before in
-    rw (c .plus2 .ensures, c .before .plus .ensures, byte .byte .ensures, at .at .ensures, made-row .made-row .ensures, primary .primary .ensures)
+    let byte = c .before .before in let count = byte .before in let primary = count .before in
+    rw (c .plus2 .ensures, c .before .plus .ensures, byte .byte .ensures, count .made-count .ensures, primary .primary .ensures)
 
 pub first-hop-spec : {M : Type 1} → statement M
 first-hop-spec =
     tie.close
     (tie.spec
     primary-requires
-    made-row-requires
-    cast-at
-    at-requires
+    cast-made-count
+    made-count-requires
     byte-requires
     plus-requires
     plus-requires-2

@@ -1,5 +1,6 @@
 -- The two sets are read where the rule reads them.
 use borrow.Author.Needs.{needs}
+use Rattle.hops.specs.Access.{withoutCounts}
 use Rattle.relay.specs.Machine.{outgoing}
 use Rattle.relay.proofs.arrival.outgoing.Statement.{statement}
 use Rattle.relay.proofs.arrival.outgoing.Tie as tie
@@ -20,10 +21,10 @@ intersection-requires : tie.Need-intersection-requires
 intersection-requires c κs = search needs
 
 returns : tie.Need-returns
-unfolding outgoing
+unfolding outgoing withoutCounts
 returns c =
-    let route = c .before .before .before .before in
-    rw (c .intersection .ensures, c .before .before .child-set .ensures, route .route .ensures, route .before .group-for .ensures)
+    let route = c .before .before .before in
+    rw (c .intersection .ensures, c .before .child-set .ensures, route .route .ensures, route .before .group-for .ensures)
 
 pub outgoing-spec : {M : Type 1} → statement M
 outgoing-spec =

@@ -1,6 +1,6 @@
 -- Loops that fill a table or follow a rule place by place. Assumes nothing.
 use mathlib.Core.Path.{_≡_, refl, sym, ap, _∙_}
-use mathlib.Core.Logic.{_⊎_, ⊎-elim, by-cases}
+use mathlib.Core.Logic.{by-cases}
 use mathlib.Core.Bool.{Bool, true, false, _&&_, cond, and-false}
 use mathlib.Core.List.{List, [], _∷_}
 use Prim.Native.Nat.{ℕ, zero, suc, _+_, _≤_, _<_, zero-le}
@@ -14,7 +14,6 @@ use lib.Dec.{ltb}
 use lib.ListN.{length, getD, set, length-set}
 use lib.Seq.{getD-set-same, getD-set-other}
 use Rattle.sets.specs.Sets.{member, includingIf, collect}
-use Rattle.sets.proofs.Bools.{cond-true, cond-false}
 use Rattle.layout.specs.Tables.{tabulate}
 use Rattle.layout.proofs.Tables.{length-tabulate, getD-tabulate, tabulated, same-tables, collect-turn}
 
@@ -59,17 +58,6 @@ reached-all {A} {n} {g} h b = h .right ∙ ap g (le-antisymm (h .within) b)
 
 pub reached-turn : {A : Type 0} {n : ℕ} {g : ℕ → A} {s r : A} {i : ℕ} → Reached n g s i → i < n → r ≡ g (suc i) → Reached n g r (i + 1)
 reached-turn {A} {n} {g} {s} {r} {i} h b e = record { within = omega arith; right = e ∙ ap g (sym (add-one i)) }
-
--- one turn of a loop that changes the number by `op` and `a` where a test says so
-pub tested-turn : (op : ℕ → ℕ → ℕ) (a : ℕ) (t : Bool) {n : ℕ} {g : ℕ → ℕ} {s i r : ℕ} → Reached n g s i → i < n
-    → g (suc i) ≡ cond t (op (g i) a) (g i) → ((t ≡ true) × (r ≡ op s a)) ⊎ ((t ≡ false) × (r ≡ s)) → Reached n g r (i + 1)
-tested-turn op a t {n} {g} {s} {i} {r} h b e w = record {
-  within = omega arith;
-  right = ⊎-elim
-      (λ (x : (t ≡ true) × (r ≡ op s a)). x .1 ∙ ap (λ (y : ℕ). op y a) (h .right) ∙ sym (cond-true t _ _ (x .0)))
-      (λ (x : (t ≡ false) × (r ≡ s)). x .1 ∙ h .right ∙ sym (cond-false t _ _ (x .0))) w
-      ∙ sym e ∙ ap g (sym (add-one i));
-}
 
 -- a set that is collected by a test
 abbrev pub Collected : ℕ → (ℕ → Bool) → ℕ → ℕ → Type 0

@@ -71,6 +71,13 @@ pub collected-turn : {n : ℕ} (f : ℕ → Bool) {s i r : ℕ} {t : Bool} → C
     → r ≡ includingIf s i t → Collected n f r (i + 1)
 collected-turn {n} f {s} {i} {r} {t} h b ht hr = record { within = omega arith; right = collect-turn f i s r t (h .right) ht hr }
 
+-- a table of sets, each collected by its own test: one number more in each
+pub collected-more : (n k : ℕ) (test : ℕ → ℕ → Bool) (l : List ℕ) → l ≡ tabulate n (λ u. collect k (test u))
+    → tabulate n (λ u. includingIf (getD l u 0) k (test u k)) ≡ tabulate n (λ u. collect (suc k) (test u))
+unfolding collect
+collected-more n k test l e = same-tables n _ _ (λ u b.
+    ap (λ (x : ℕ). includingIf x k (test u k)) (ap (λ (t : List ℕ). getD t u 0) e ∙ getD-tabulate n _ u 0 b))
+
 -- ---- a table that is changed at the members of a set
 
 -- of 32 entries, those at the members of s below k are new

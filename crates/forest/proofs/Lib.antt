@@ -3,3 +3,4 @@ pub mod Ancestry
 pub mod Primaries
 pub mod Accepted
 pub mod Theorems
+pub mod AncestorTables

@@ -20,15 +20,7 @@ use Rattle.layout.specs.Tables.{tabulate}
 use Rattle.forest.specs.Forest.{parent, ancestorsWithin, ancestors, primary}
 use Rattle.forest.specs.Calls.{badCounts, emptyGroups, outsideGroups, refuse, groupsRefusal, orRoots}
 use Rattle.layout.proofs.Loops.{getD-any}
-use lib.ListN.{List·getD-eq-default}
 use Rattle.forest.proofs.Ancestry.{ancestors-below}
-
--- ---- entries of a list
-
--- whatever a test says
-pub cond-beyond : (b : Bool) (l : List ℕ) (i d : ℕ) → length l ≤ i → d ≡ cond b (getD l i d) d
-cond-beyond true l i d h = sym (List·getD-eq-default l d h)
-cond-beyond false l i d h = refl
 
 -- ---- tests
 

@@ -4,17 +4,16 @@ use crate::faults;
 use crate::faults::Fault;
 use crate::groups;
 ghost use mathlib.Core.Path.{_≡_};
-ghost use Rattle.forest.specs.Calls.{refusal, drawnAt, drawn as drawnOf, groupsRefusal, drawingRefusal};
+ghost use mathlib.Core.Bool.{cond};
+ghost use lib.Dec.{ltb};
+ghost use Rattle.forest.specs.Calls.{refusal, drawn as drawnOf, groupsRefusal, drawingRefusal};
 
-// The parent of u, if it is one of the units.
-fn drawn_at(units: usize, parents: [u8; 32], u: usize) -> u8
-    ensures { λ r. ⌜ r ≡ drawnAt units parents u ⌝ }
+// The parent that stands at u, if u is one of the units.
+fn drawn_at(units: usize, parent: u8, u: usize) -> u8
+    ensures { λ r. ⌜ r ≡ cond (ltb u units) parent 255 ⌝ }
 {
-    if 32 <= u {
-        return 255;
-    }
     if u < units {
-        return parents[u];
+        return parent;
     }
     255
 }
@@ -26,7 +25,7 @@ pub fn drawn(units: usize, parents: [u8; 32]) -> [u8; 32]
     let mut table = [255u8; 32];
     let mut u = 0;
     while u < 32 {
-        table[u] = drawn_at(units, parents, u);
+        table[u] = drawn_at(units, parents[u], u);
         u += 1;
     }
     table

@@ -1,6 +1,7 @@
 // The faults that a table of groups or a drawing can have at a place, and the set of the places that have one.
 use crate::routes;
 ghost use mathlib.Core.Path.{_≡_};
+ghost use lib.ListN.{length};
 ghost use Rattle.sets.specs.Sets.{collect};
 ghost use Rattle.forest.specs.Forest.{ownAncestor, lacksPrimary};
 ghost use Rattle.forest.specs.Calls.{emptyAt, outsideAt, outsideParent};
@@ -17,8 +18,9 @@ pub enum Fault {
 }
 
 // The group at place i counts and is empty.
-fn empty_at(groups: [u32; 24], count: usize, i: usize) -> bool
-    ensures { λ r. ⌜ r ≡ emptyAt count groups i ⌝ }
+fn empty_at(groups: &[u32; 24], count: usize, i: usize) -> bool
+    requires { ⌜ length (now groups) ≡ 24 ⌝ }
+    ensures { λ r. ⌜ r ≡ emptyAt count (now (groups .entry)) i ⌝ }
 {
     if count <= i {
         return false;
@@ -30,8 +32,9 @@ fn empty_at(groups: [u32; 24], count: usize, i: usize) -> bool
 }
 
 // The group at place i has a member that is not below the number of units.
-fn outside_at(units: usize, groups: [u32; 24], i: usize) -> bool
-    ensures { λ r. ⌜ r ≡ outsideAt units groups i ⌝ }
+fn outside_at(units: usize, groups: &[u32; 24], i: usize) -> bool
+    requires { ⌜ length (now groups) ≡ 24 ⌝ }
+    ensures { λ r. ⌜ r ≡ outsideAt units (now (groups .entry)) i ⌝ }
 {
     if 24 <= i {
         return false;
@@ -65,8 +68,9 @@ fn own_ancestor(parents: [u8; 32], u: usize) -> bool
 }
 
 // The group at place i counts and has no primary.
-fn lacks_primary(groups: [u32; 24], count: usize, parents: [u8; 32], i: usize) -> bool
-    ensures { λ r. ⌜ r ≡ lacksPrimary count groups parents i ⌝ }
+fn lacks_primary(groups: &[u32; 24], count: usize, parents: [u8; 32], i: usize) -> bool
+    requires { ⌜ length (now groups) ≡ 24 ⌝ }
+    ensures { λ r. ⌜ r ≡ lacksPrimary count (now (groups .entry)) parents i ⌝ }
 {
     if count <= i {
         return false;
@@ -81,12 +85,13 @@ fn lacks_primary(groups: [u32; 24], count: usize, parents: [u8; 32], i: usize) -
 fn faulty(
     fault: Fault,
     units: usize,
-    groups: [u32; 24],
+    groups: &[u32; 24],
     count: usize,
     parents: [u8; 32],
     i: usize,
 ) -> bool
-    ensures { λ r. ⌜ r ≡ faultyOf fault units count groups parents i ⌝ }
+    requires { ⌜ length (now groups) ≡ 24 ⌝ }
+    ensures { λ r. ⌜ r ≡ faultyOf fault units count (now (groups .entry)) parents i ⌝ }
 {
     match fault {
         Fault::EmptyGroup => empty_at(groups, count, i),
@@ -104,7 +109,7 @@ pub fn places(fault: Fault, units: usize, groups: [u32; 24], count: usize, paren
     let mut set: u32 = 0;
     let mut i = 0;
     while i < 32 {
-        set = sets::including_if(set, i, faulty(fault, units, groups, count, parents, i));
+        set = sets::including_if(set, i, faulty(fault, units, &groups, count, parents, i));
         i += 1;
     }
     set

@@ -3,8 +3,10 @@ use crate::Verdict;
 use crate::faults;
 use crate::faults::Fault;
 ghost use mathlib.Core.Path.{_≡_};
+ghost use mathlib.Core.Bool.{cond};
 ghost use mathlib.Core.List.{[]};
-ghost use Rattle.forest.specs.Calls.{refusal, accepts, countedAt, counted as countedOf, badCounts, groupsRefusal};
+ghost use lib.Dec.{ltb};
+ghost use Rattle.forest.specs.Calls.{refusal, accepts, counted as countedOf, badCounts, groupsRefusal};
 
 // Whether a verdict refuses nothing.
 pub fn is_accepted(verdict: Verdict) -> bool
@@ -20,15 +22,12 @@ pub fn is_accepted(verdict: Verdict) -> bool
     }
 }
 
-// The group at place i, if it counts.
-fn counted_at(groups: [u32; 24], count: usize, i: usize) -> u32
-    ensures { λ r. ⌜ r ≡ countedAt count groups i ⌝ }
+// The group that stands at place i, if it counts.
+fn counted_at(group: u32, count: usize, i: usize) -> u32
+    ensures { λ r. ⌜ r ≡ cond (ltb i count) group 0 ⌝ }
 {
-    if 24 <= i {
-        return 0;
-    }
     if i < count {
-        return groups[i];
+        return group;
     }
     0
 }
@@ -40,7 +39,7 @@ pub fn counted(groups: [u32; 24], count: usize) -> [u32; 24]
     let mut table = [0u32; 24];
     let mut i = 0;
     while i < 24 {
-        table[i] = counted_at(groups, count, i);
+        table[i] = counted_at(groups[i], count, i);
         i += 1;
     }
     table

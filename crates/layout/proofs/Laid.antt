@@ -18,7 +18,8 @@ use Rattle.sets.proofs.Laws.{size-less, size-below, size-positive}
 use Rattle.layout.specs.Build.{itself, holdsAt, groupsOf, setAside, component, root, parentWithin, builtParent}
 use Rattle.layout.specs.Build.{IsRoot, IsPart, Laid, whole, smaller}
 use Rattle.layout.specs.Build.{RootOf, Same}
-use Rattle.layout.proofs.Parts.{Table, Closed, units-closed, place-below, joined-among, component-keeps, component-below, component-self}
+use Rattle.layout.specs.Layout.{Table}
+use Rattle.layout.proofs.Parts.{Closed, units-closed, place-below, joined-among, component-keeps, component-below, component-self}
 use Rattle.layout.proofs.Parts.{component-closed, component-joined, joined-component, component-same}
 use Rattle.layout.proofs.Roots.{root-is, root-unique, root-found}
 

@@ -7,7 +7,7 @@ use Prim.Native.Nat.{ℕ, zero, suc, _≤_, _<_, _^_}
 use native.Mathlib.Nat.{le-refl, le-trans, le-of-suc-le-suc, not-suc-le-zero}
 use native.Mathlib.Decide.{ℕ-discrete, decLt}
 use native.Mathlib.Omega.{arith}
-use lib.ListN.{length, getD, set}
+use lib.ListN.{length, getD, set, length-set}
 use lib.Seq.{getD-set-same, getD-set-other}
 use lib.Dec.{eqb}
 use borrow.Author.Tests.{eq-eqb, ne-eqb}
@@ -19,9 +19,9 @@ use Rattle.sets.proofs.Laws.{not-member, below-below, none-collect}
 use Rattle.layout.specs.Tables.{tabulate}
 use Rattle.layout.specs.Build.{holdsAt, groupsOf, degree, setAside, component, largestWithin, root, parentWithin}
 use Rattle.layout.specs.Build.{builtParent, IsRoot}
-use Rattle.layout.specs.Layout.{degreeIn, Layable, LaidOut}
+use Rattle.layout.specs.Layout.{Table, degreeIn, Layable, LaidOut}
 use Rattle.layout.proofs.Tables.{tabulated, getD-tabulate, getD-past}
-use Rattle.layout.proofs.Parts.{Table, component-below, component-self, component-same}
+use Rattle.layout.proofs.Parts.{component-below, component-self, component-same}
 use Rattle.layout.proofs.Roots.{root-is}
 use Rattle.layout.proofs.Laid.{Bench, Facts, in-rest, rest-in, component-in-rest}
 
@@ -53,11 +53,13 @@ module _ {gs : List ℕ} {live top all : ℕ} {before table : List ℕ} {rest : 
   part-in-rest u m = h .closed (lowest rest) u (low .1) m
 
   -- the next part is one that can be laid, and is no larger than what there is to lay
-  laying-layable : {of : List ℕ} → of ≡ tabulate 32 (groupsOf gs) → Layable gs of (component gs live (lowest rest)) live
+  laying-layable : {of : List ℕ} → of ≡ tabulate 32 (groupsOf gs) → Layable gs of (component gs live (lowest rest)) live table
   laying-layable e = record {
+    groups = tab;
     table = e;
     some = let n = not-empty (component gs live (lowest rest)) (lowest rest) (component-self gs live tab (lowest rest) (low .0)) in omega arith;
     same = λ u m. component-same gs live tab (lowest rest) u (low .0) m;
+    long = h .long;
   }
 
   laying-size : size (component gs live (lowest rest)) ≤ size all
@@ -71,10 +73,10 @@ module _ {gs : List ℕ} {live top all : ℕ} {before table : List ℕ} {rest : 
       (λ u m. and-left (member rest u) _ (sym (member-difference rest (component gs live (lowest rest)) u) ∙ m)) (low .0) (low .1)
       (member-difference rest (component gs live (lowest rest)) (lowest rest) ∙ simp (low .1, component-self gs live tab (lowest rest) (low .0)))
 
-  laying-turn : {after : List ℕ} → length after ≡ 32 → LaidOut gs (component gs live (lowest rest)) live top table after
+  laying-turn : {after : List ℕ} → LaidOut gs (component gs live (lowest rest)) live top table after
       → Laying gs live top all before after (difference rest (component gs live (lowest rest)))
-  laying-turn {after} l o = record {
-    long = l;
+  laying-turn {after} o = record {
+    long = o .long;
     bounded = difference-below 32 rest part (h .bounded);
     within = λ u m. h .within u (left u m .0);
     closed = λ u v m a. put v (h .closed u v (left u m .0) a) (not-true-false (member part v) (λ p. clash (same u v m a p) (left u m .1)));
@@ -112,8 +114,8 @@ module _ {gs : List ℕ} {live top all : ℕ} {before table : List ℕ} {rest : 
   this : component gs live (lowest rest) ≡ part
   this = ap (component gs live) (sym low-unit) ∙ sym next
 
-  pub turn-layable : {of : List ℕ} → of ≡ tabulate 32 (groupsOf gs) → Layable gs of part live
-  turn-layable {of} e = subst (λ (x : ℕ). Layable gs of x live) this (laying-layable tab h some e)
+  pub turn-layable : {of : List ℕ} → of ≡ tabulate 32 (groupsOf gs) → Layable gs of part live table
+  turn-layable {of} e = subst (λ (x : ℕ). Layable gs of x live table) this (laying-layable tab h some e)
 
   pub turn-size : size part ≤ size all
   turn-size = subst (λ (x : ℕ). size x ≤ size all) this (laying-size tab h some)
@@ -121,11 +123,11 @@ module _ {gs : List ℕ} {live top all : ℕ} {before table : List ℕ} {rest : 
   pub turn-less : {rest′ : ℕ} → rest′ ≡ difference rest part → size rest′ < size rest
   turn-less e = subst (λ (x : ℕ). size x < size rest) (ap (difference rest) this ∙ sym e) (laying-less tab h some)
 
-  pub turn-again : {rest′ : ℕ} {after : List ℕ} → rest′ ≡ difference rest part → length after ≡ 32 → LaidOut gs part live top table after
+  pub turn-again : {rest′ : ℕ} {after : List ℕ} → rest′ ≡ difference rest part → LaidOut gs part live top table after
       → Laying gs live top all before after rest′
-  turn-again {rest′} {after} e l o =
+  turn-again {rest′} {after} e o =
       subst (λ (x : ℕ). Laying gs live top all before after x) (ap (difference rest) this ∙ sym e)
-      (laying-turn tab h some l (subst (λ (x : ℕ). LaidOut gs x live top table after) (sym this) o))
+      (laying-turn tab h some (subst (λ (x : ℕ). LaidOut gs x live top table after) (sym this) o))
 
 -- ---- one part
 
@@ -144,7 +146,7 @@ root-by-table gs part tab = ap (λ (f : ℕ → ℕ). largestWithin 32 f part) (
 table-bench : (gs : List ℕ) → Table gs → Bench 32 gs
 table-bench gs tab = record { few = le-refl 32; table = tab; within = λ i u m. member-below 32 (getD gs i 0) u (tab .bounded i) m }
 
-module _ {gs of : List ℕ} {part live : ℕ} (tab : Table gs) (small : part < 2 ^ 32) (h : Layable gs of part live) where
+module _ {gs of parents : List ℕ} {part live : ℕ} (small : part < 2 ^ 32) (h : Layable gs of part live parents) where
   facts : Facts 32 gs part live
   facts = record { bounded = small; units = λ u m. member-below 32 part u small m; same = h .same }
 
@@ -157,26 +159,28 @@ module _ {gs of : List ℕ} {part live : ℕ} (tab : Table gs) (small : part < 2
   pub rest-smaller : size (excluding part (root gs part)) < size part
   rest-smaller = size-excluding part (root gs part) root-below (root-of-part .inside)
 
-  pub rest-starts : {top : ℕ} {before : List ℕ} → length before ≡ 32
-      → Laying gs (setAside gs live (root gs part)) top (excluding part (root gs part)) before before (excluding part (root gs part))
+  pub rest-starts : (v top : ℕ) (r : ℕ)
+      → Laying gs (setAside gs live (root gs part)) top (excluding part (root gs part)) (set parents r v) (set parents r v)
+      (excluding part (root gs part))
   unfolding Subset
-  rest-starts l = laying-none l (excluding-below 32 part (root gs part) small)
+  rest-starts v top r = laying-none (length-set parents r v ∙ h .long) (excluding-below 32 part (root gs part) small)
       (λ u v m a. let i = in-rest part (root gs part) u root-below m in
-      component-in-rest 32 gs (table-bench gs tab) part live (root gs part) facts (root-of-part .inside) u (i .0) (i .1) v a)
+      component-in-rest 32 gs (table-bench gs (h .groups)) part live (root gs part) facts (root-of-part .inside) u (i .0) (i .1) v a)
 
   -- the root has been set, and each smaller part is laid
-  pub part-ends : {top rest : ℕ} {parents table : List ℕ} → length parents ≡ 32
+  pub part-ends : {top rest : ℕ} {table : List ℕ}
       → Laying gs (setAside gs live (root gs part)) (root gs part) (excluding part (root gs part))
       (set parents (root gs part) top) table rest → rest ≡ 0
       → LaidOut gs part live top parents table
   unfolding parentWithin
-  part-ends {top} {rest} {parents} {table} l y e = record {
+  part-ends {top} {rest} {table} y e = record {
     inside = λ u k m s. by-cases (ℕ-discrete u (root gs part))
         (λ q. subst (λ (x : ℕ). getD table x 255 ≡ parentWithin k gs live top x) (sym q) (at-root k s))
         (λ q. below-root u k m q s);
     outside = λ u f. y .kept u (not-true-false (member (excluding part (root gs part)) u)
         (λ a. clash (in-rest part (root gs part) u root-below a .0) f))
         ∙ getD-set-other parents (root gs part) u top 255 (λ q. clash (root-of-part .inside) (ap (member part) (sym q) ∙ f));
+    long = y .long;
   }
     where
       r : ℕ
@@ -189,7 +193,7 @@ module _ {gs of : List ℕ} {part live : ℕ} (tab : Table gs) (small : part < 2
       at-root zero s = absurd (not-suc-le-zero (le-trans rest-smaller s))
       at-root (suc k) s =
           y .kept r (not-true-false (member (excluding part r) r) (λ a. in-rest part r r root-below a .1 refl))
-          ∙ getD-set-same parents r top 255 (subst (λ (x : ℕ). r < x) (sym l) root-below)
+          ∙ getD-set-same parents r top 255 (subst (λ (x : ℕ). r < x) (sym (h .long)) root-below)
           ∙ sym (cond-true (eqb r (root gs (component gs live r))) top _
           (eq-eqb r (root gs (component gs live r)) (sym (found r (root-of-part .inside)))))
 
@@ -203,13 +207,13 @@ module _ {gs of : List ℕ} {part live : ℕ} (tab : Table gs) (small : part < 2
           ∙ ap (λ (x : ℕ). parentWithin k gs (setAside gs live x) x u) (found u m))
 
 -- the same of the code's root r, the groups left and the units left
-module _ {gs of : List ℕ} {part live r fewer all : ℕ} (tab : Table gs) (small : part < 2 ^ 32) (h : Layable gs of part live)
+module _ {gs of parents : List ℕ} {part live r fewer all : ℕ} (small : part < 2 ^ 32) (h : Layable gs of part live parents)
     (top-unit : r ≡ largestWithin 32 (degreeIn of) part) (left : fewer ≡ difference live (getD of r 0)) (others : all ≡ excluding part r) where
   is-root : r ≡ root gs part
-  is-root = top-unit ∙ ap (λ (x : List ℕ). largestWithin 32 (degreeIn x) part) (h .table) ∙ root-by-table gs part tab
+  is-root = top-unit ∙ ap (λ (x : List ℕ). largestWithin 32 (degreeIn x) part) (h .table) ∙ root-by-table gs part (h .groups)
 
   pub lay-below : r < 32
-  lay-below = subst (λ (x : ℕ). x < 32) (sym is-root) (root-below tab small h)
+  lay-below = subst (λ (x : ℕ). x < 32) (sym is-root) (root-below small h)
 
   is-left : fewer ≡ setAside gs live (root gs part)
   unfolding setAside
@@ -220,14 +224,14 @@ module _ {gs of : List ℕ} {part live r fewer all : ℕ} (tab : Table gs) (smal
   are-others = others ∙ ap (excluding part) is-root
 
   pub lay-smaller : size all < size part
-  lay-smaller = subst (λ (x : ℕ). size x < size part) (sym are-others) (rest-smaller tab small h)
+  lay-smaller = subst (λ (x : ℕ). size x < size part) (sym are-others) (rest-smaller small h)
 
-  pub lay-starts : {before : List ℕ} → length before ≡ 32 → Laying gs fewer r all before before all
-  lay-starts l = rw (is-left, are-others) (rest-starts tab small h l)
+  pub lay-starts : (top : ℕ) → Laying gs fewer r all (set parents r top) (set parents r top) all
+  lay-starts top = rw (is-left, are-others) (rest-starts small h top r r)
 
-  pub lay-ends : {top rest : ℕ} {parents table : List ℕ} → length parents ≡ 32 → Laying gs fewer r all (set parents r top) table rest
+  pub lay-ends : {top rest : ℕ} {table : List ℕ} → Laying gs fewer r all (set parents r top) table rest
       → rest ≡ 0 → LaidOut gs part live top parents table
-  lay-ends l y e = part-ends tab small h l (rw (is-left, are-others, is-root) at y) e
+  lay-ends y e = part-ends small h (rw (is-left, are-others, is-root) at y) e
 
 -- ---- the whole bench
 

@@ -1,27 +1,24 @@
 -- A component as the rule computes it is exactly a class of the relation "joined by a chain", over the live groups. Assumes nothing.
 use mathlib.Core.Path.{_≡_, refl, sym, ap, subst, _∙_}
 use mathlib.Core.Logic.{_⊎_, inl, inr, ⊎-elim, by-cases}
-use mathlib.Core.Bool.{Bool, true, false, not, _&&_, cond}
+use mathlib.Core.Bool.{Bool, true, false, not, _&&_, cond, and-false}
 use mathlib.Core.List.{List}
 use Prim.Native.Nat.{ℕ, zero, suc, _+_, _≤_, _<_, _^_}
 use native.Mathlib.Nat.{lt-irrefl, le-refl, le-trans}
 use native.Mathlib.Decide.{ℕ-discrete, decLt, le-ind}
 use native.Mathlib.Omega.{arith}
 use lib.ListN.{length, getD, List·getD-eq-default}
-use lib.Dec.{ltb, eqb}
+use lib.Dec.{ltb, eqb, lit≤}
+use lib.Bits.{and-zero-r}
 use borrow.Author.Tests.{lt-ltb, eq-eqb, ne-eqb, eqb-true}
 use Rattle.sets.specs.Sets.{member, single, union, intersection, size, lowest, below}
 use Rattle.sets.proofs.Bools.{clash, and-left, and-right, and-both, or-cases, or-left, or-right, not-of-false, false-of-not}
 use Rattle.sets.proofs.Bools.{same-test, cond-true}
 use Rattle.sets.proofs.Laws.{Subset, member-union, member-intersection, member-single, member-empty, member-below}
-use Rattle.sets.proofs.Laws.{in-below, same-members, union-below, single-below, size-grows, size-below, size-positive}
+use Rattle.sets.proofs.Laws.{in-below, below-in, below-is, same-members, union-below, single-below, size-grows, size-below, size-positive}
 use Rattle.sets.proofs.Laws.{not-empty, intersection-below, lowest-of-some}
+use Rattle.layout.specs.Layout.{Table}
 use Rattle.layout.specs.Build.{Joined, itself, together, chain, absorbed, spread, rounds, component}
-
--- 24 groups of 32 bits
-pub record Table (gs : List ℕ) : Type 0 where
-  pub long : length gs ≡ 24
-  pub bounded : (i : ℕ) → getD gs i 0 < 2 ^ 32
 
 -- a live group that holds one of the units `among` lies among them
 unfoldable pub Closed : List ℕ → ℕ → ℕ → Type 0
@@ -113,6 +110,10 @@ absorbed-from s g v b h m = go (b && not (eqb (intersection s g) 0)) refl m
 in-single : (u : ℕ) → u < 32 → member (single u) u ≡ true
 in-single u h = member-single u u ∙ and-both (ltb u 32) (eqb u u) (lt-ltb u 32 h) (eq-eqb u u refl)
 
+-- the live groups among the 24 places
+pub live-below : (live : ℕ) → intersection (below 24) live < 2 ^ 24
+live-below live = intersection-below 24 (below 24) live (subst (λ (x : ℕ). x < 2 ^ 24) (below-is 24 (lit≤ tt)) (lit≤ tt))
+
 module _ (gs : List ℕ) (live : ℕ) where
   spread-grows : (k s : ℕ) → Subset s (spread k gs live s)
   unfolding Subset spread
@@ -124,6 +125,20 @@ module _ (gs : List ℕ) (live : ℕ) where
   spread-more j k s h =
       le-ind (λ (m : ℕ). Subset (spread j gs live s) (spread m gs live s)) (λ u a. a)
       (λ m l f u a. absorbed-grows (spread m gs live s) (getD gs m 0) (member live m) u (f u a)) k h
+
+  -- the groups that spreading goes through: the live ones among the 24 places
+  pub live-place : (k : ℕ) → member (intersection (below 24) live) k ≡ true → (k < 24) × (member live k ≡ true)
+  live-place k m =
+      let both = sym (member-intersection (below 24) live k) ∙ m in
+      (below-in 24 k (and-left (member (below 24) k) _ both), and-right (member (below 24) k) _ both)
+
+  -- no group that is not live, or stands at no place, is absorbed
+  pub spread-still : (s : ℕ) → length gs ≡ 24 → (k : ℕ) → member (intersection (below 24) live) k ≡ false
+      → spread (suc k) gs live s ≡ spread k gs live s
+  unfolding spread absorbed intersection
+  spread-still s l k h = by-cases (decLt k 24)
+      (λ (b : k < 24). simp (simp (in-below 24 k (omega arith) b) at (sym (member-intersection (below 24) live k) ∙ h)))
+      (λ (b : k < 24 → ⊥). simp (List·getD-eq-default gs 0 {n = k} (omega arith), and-zero-r, and-false))
 
   -- a set that spreading leaves as it is stays so
   pub rounds-fixed : (k s : ℕ) → spread 24 gs live s ≡ s → rounds k gs live s ≡ s

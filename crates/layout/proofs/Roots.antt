@@ -27,6 +27,11 @@ record Found (deg : ℕ → ℕ) (s k r : ℕ) : Type 0 where
 abbrev Search : (ℕ → ℕ) → ℕ → ℕ → ℕ → Type 0
 Search deg s k r = ((r ≡ 32) × ((u : ℕ) → u < k → member s u ≡ true → ⊥)) ⊎ Found deg s k r
 
+-- the search does not change at a number that is no member
+pub largest-still : (deg : ℕ → ℕ) (s k : ℕ) → member s k ≡ false → largestWithin (suc k) deg s ≡ largestWithin k deg s
+unfolding largestWithin betterOf
+largest-still deg s k h = simp h
+
 module _ (deg : ℕ → ℕ) (s : ℕ) where
   -- what holds below k and at k holds below k + 1
   below-suc : (P : ℕ → Type 0) (k : ℕ) → ((u : ℕ) → u < k → P u) → P k → (u : ℕ) → u < suc k → P u

@@ -4,7 +4,7 @@ use mathlib.Core.Bool.{Bool}
 use mathlib.Core.List.{List}
 use lib.Dec.{eqb}
 use lib.ListN.{getD}
-use Rattle.sets.specs.Sets.{collect}
+use Rattle.sets.specs.Sets.{includingIf, collect}
 use Rattle.layout.specs.Tables.{tabulate}
 use Rattle.forest.specs.Forest.{parent, primary, route}
 use Rattle.routing.specs.declared.Topology.{Topology}
@@ -14,6 +14,10 @@ isChild ps u c = eqb (parent ps c) u
 
 unfoldable pub childrenOf : List ℕ → ℕ → ℕ
 childrenOf ps u = collect 32 (isChild ps u)
+
+-- a table of the children of each unit, with c as a child of u
+unfoldable pub withChild : ℕ → ℕ → List ℕ → List ℕ
+withChild u c table = tabulate 32 (λ v. includingIf (getD table v 0) c (eqb u v))
 
 unfoldable pub topology : (units count : ℕ) (groups parents : List ℕ) → Topology
 topology n c gs ps = record {

@@ -1,11 +1,10 @@
 // What a bench is made for, computed once: groups, their primaries and routes (document 01: ways),
 // and the children of each unit.
 ghost use mathlib.Core.Path.{_≡_};
-ghost use lib.ListN.{getD};
+ghost use lib.ListN.{length, getD};
 ghost use Rattle.sets.specs.Sets.{size as sizeOf};
 ghost use Rattle.layout.specs.Tables.{tabulate};
-ghost use Rattle.forest.specs.Forest.{primary as primaryOf, route as routeOf};
-ghost use Rattle.routing.specs.Computed.{isChild, childrenOf, topology};
+ghost use Rattle.routing.specs.Computed.{withChild, childrenOf, topology};
 
 pub struct Topology {
     pub units: usize,
@@ -16,27 +15,14 @@ pub struct Topology {
     pub routes: [u32; 24],
 }
 
-// Whether c is a child of u.
-fn is_child(parents: [u8; 32], u: usize, c: usize) -> bool
-    ensures { λ r. ⌜ r ≡ isChild parents u c ⌝ }
+// Adds c to the children of u, if u is a unit.
+fn add_child(table: &mut [u32; 32], u: usize, c: usize)
+    requires { ⌜ length (now table) ≡ 32 ⌝ }
+    ensures { λ _. ⌜ now (table .exit) ≡ withChild u c (now (table .entry)) ⌝ }
 {
-    if 32 <= c {
-        return u == 255;
+    if u < 32 {
+        table[u] = sets::including(table[u], c);
     }
-    parents[c] as usize == u
-}
-
-// The children of u.
-fn children_of(parents: [u8; 32], u: usize) -> u32
-    ensures { λ r. ⌜ r ≡ childrenOf parents u ⌝ }
-{
-    let mut set: u32 = 0;
-    let mut c = 0;
-    while c < 32 {
-        set = sets::including_if(set, c, is_child(parents, u, c));
-        c += 1;
-    }
-    set
 }
 
 // The children of each unit.
@@ -44,43 +30,11 @@ fn children(parents: [u8; 32]) -> [u32; 32]
     ensures { λ r. ⌜ r ≡ tabulate 32 (childrenOf parents) ⌝ }
 {
     let mut table = [0u32; 32];
-    let mut u = 0;
-    while u < 32 {
-        table[u] = children_of(parents, u);
-        u += 1;
-    }
-    table
-}
-
-// The primary of a group.
-fn primary_at(parents: [u8; 32], group: u32) -> u8
-    ensures { λ r. ⌜ r ≡ primaryOf parents group ⌝ }
-{
-    forest::routes::primary(parents, group) as u8
-}
-
-// The primary of each group.
-fn primaries(parents: [u8; 32], groups: [u32; 24]) -> [u8; 24]
-    ensures { λ r. ⌜ r ≡ tabulate 24 (λ g. primaryOf parents (getD groups g 0)) ⌝ }
-{
-    let mut table = [0u8; 24];
-    let mut g = 0;
-    while g < 24 {
-        table[g] = primary_at(parents, groups[g]);
-        g += 1;
-    }
-    table
-}
-
-// The route of each group.
-fn routes(parents: [u8; 32], groups: [u32; 24]) -> [u32; 24]
-    ensures { λ r. ⌜ r ≡ tabulate 24 (λ g. routeOf parents (getD groups g 0)) ⌝ }
-{
-    let mut table = [0u32; 24];
-    let mut g = 0;
-    while g < 24 {
-        table[g] = forest::routes::route(parents, groups[g]);
-        g += 1;
+    let mut c = 0;
+    while c < 32 {
+        let u = parents[c] as usize;
+        add_child(&mut table, u, c);
+        c += 1;
     }
     table
 }
@@ -90,15 +44,16 @@ pub fn of(units: usize, groups: [u32; 24], count: usize, parents: [u8; 32]) -> T
     ensures { λ r. ⌜ r ≡ topology units count groups parents ⌝ }
 {
     let below = children(parents);
-    let tops = primaries(parents, groups);
-    let ways = routes(parents, groups);
+    let table = forest::routes::route_table(parents, groups);
+    let primaries = table.primaries;
+    let routes = table.routes;
     Topology {
         units,
         count,
         groups,
         children: below,
-        primaries: tops,
-        routes: ways,
+        primaries,
+        routes,
     }
 }
 

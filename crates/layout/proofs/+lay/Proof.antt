@@ -12,25 +12,24 @@ use Rattle.sets.proofs.excluding.Reads as excluding-reads
 use Rattle.sets.proofs.lowest.Reads as lowest-reads
 use Rattle.layout.proofs.+lay.{statement}
 use Rattle.layout.proofs.+lay.Tie.{close}
-use mathlib.Core.Path.{_≡_, refl, _∙_}
+use mathlib.Core.Path.{refl, ap, _∙_}
 use native.Mathlib.Omega.{arith}
-use lib.ListN.{length, getD, length-set}
-use mir.Syntax.{w32}
-use mir.Val.{Fits}
+use lib.ListN.{length}
 use Rattle.sets.specs.Sets.{size}
-use Rattle.layout.proofs.Parts.{Table}
+use Rattle.layout.specs.Layout.{Table}
+use Rattle.layout.proofs.Tables.{length-tabulate}
 use Rattle.layout.proofs.Laying.{Laying, turn-layable, turn-size, turn-less, turn-again, lay-below as root-small}
 use Rattle.layout.proofs.Laying.{lay-smaller, lay-starts, lay-ends}
 
 -- the number of units in the part falls
-abbrev μ-lay : Measures 0 lay-kinds.ps ℕ
+abbrev μ-lay : Measures 3 lay-kinds.ps ℕ
 μ-lay κs a = size (a .1 .1 .0)
 
-abbrev lay-at : ℕ → In 0 lay-kinds.ps
-lay-at t = and 0 lay-kinds.ps (is 0 lay-kinds.ps μ-lay t) lay.Pre
+abbrev lay-at : ℕ → In 3 lay-kinds.ps
+lay-at t = and 3 lay-kinds.ps (is 3 lay-kinds.ps μ-lay t) lay.Pre
 
-abbrev lay-below : ℕ → In 0 lay-kinds.ps
-lay-below t = and 0 lay-kinds.ps (falls 0 lay-kinds.ps _<_ μ-lay t) lay.Pre
+abbrev lay-below : ℕ → In 3 lay-kinds.ps
+lay-below t = and 3 lay-kinds.ps (falls 3 lay-kinds.ps _<_ μ-lay t) lay.Pre
 
 abbrev claims : ℕ → lay-lts.Claims
 claims t = (
@@ -49,30 +48,31 @@ claims t = (
 )
 
 abbrev lay-Inv-loop : lay-lts.InvT-loop
-lay-Inv-loop groups part live top of r table₀ fewer rest₀ table rest = Laying groups fewer r rest₀ table₀ table rest
+lay-Inv-loop groups of part live top parents₀ r fewer rest₀ parents rest = Laying groups fewer r rest₀ parents₀ parents rest
 
 abbrev lay-μ-loop : lay-lts.MeasureT-loop
-lay-μ-loop groups part live top of r table₀ fewer rest₀ table rest = size rest
+lay-μ-loop groups of part live top parents₀ r fewer rest₀ parents rest = size rest
 
--- what the parameters' types say: 24 groups of 32 bits
-good-table : (t : ℕ) (c : lay-lts.Start (claims t) (lay-at t) lay.Post lay-Inv-loop lay-μ-loop) → Table (c .args .groups)
-good-table t c = record { long = search needs; bounded = λ i. let f : Fits w32 (getD (c .args .groups) i 0) = search needs in f .fits }
+-- in a turn of the loop: the groups are 24 of 32 bits
+tables : (t : ℕ) (c : lay-lts.In-loop (claims t) (lay-at t) lay.Post lay-Inv-loop lay-μ-loop)
+    → Table (c .before .before .before .before .before .before .args .groups .now)
+tables t c = c .before .before .before .before .before .before .pre .1 .groups
 
 -- the root is a unit
 root-unit : (t : ℕ) (c : lay-lts.After-root (claims t) (lay-at t) lay.Post lay-Inv-loop lay-μ-loop) → c .root .result < 32
-root-unit t c = root-small (good-table t (c .before)) (c .before .fits .part .fits) (c .before .pre .1) (c .root .ensures) refl refl
+root-unit t c = root-small (c .before .fits .part .fits) (c .before .pre .1) (c .root .ensures) refl refl
 
 lay-root-requires : (t : ℕ) → lay-lts.Need-root-requires (claims t) (lay-at t) lay.Post lay-Inv-loop lay-μ-loop
-lay-root-requires t c κs = search needs
+lay-root-requires t c κs = ap length (c .pre .1 .table) ∙ length-tabulate 32 _
 
-lay-array-write-table : (t : ℕ) → lay-lts.Need-array-write-table (claims t) (lay-at t) lay.Post lay-Inv-loop lay-μ-loop
-lay-array-write-table t c = root-unit t c
+lay-element-write-parents : (t : ℕ) → lay-lts.Need-element-write-parents (claims t) (lay-at t) lay.Post lay-Inv-loop lay-μ-loop
+lay-element-write-parents t c = root-unit t c
 
 lay-mul-difference : (t : ℕ) → lay-lts.Need-mul-difference (claims t) (lay-at t) lay.Post lay-Inv-loop lay-μ-loop
 lay-mul-difference t c = omega (arith, root-unit t c)
 
-lay-array-read-difference : (t : ℕ) → lay-lts.Need-array-read-difference (claims t) (lay-at t) lay.Post lay-Inv-loop lay-μ-loop
-lay-array-read-difference t c = root-unit t c
+lay-element-copy-out-difference : (t : ℕ) → lay-lts.Need-element-copy-out-difference (claims t) (lay-at t) lay.Post lay-Inv-loop lay-μ-loop
+lay-element-copy-out-difference t c = root-unit t c
 
 lay-difference-requires : (t : ℕ) → lay-lts.Need-difference-requires (claims t) (lay-at t) lay.Post lay-Inv-loop lay-μ-loop
 lay-difference-requires t c κs = search needs
@@ -82,35 +82,34 @@ lay-excluding-requires t c κs = search needs
 
 lay-loop-holds : (t : ℕ) → lay-lts.Need-loop-holds (claims t) (lay-at t) lay.Post lay-Inv-loop lay-μ-loop
 lay-loop-holds t c =
-    let start = c .before .before .before in
-    let l : length (start .args .parents) ≡ 32 = search needs in
-    lay-starts (good-table t start) (start .fits .part .fits) (start .pre .1) (c .before .before .root .ensures)
-    (c .before .difference .ensures) (c .excluding .ensures)
-    (length-set (start .args .parents) (c .before .before .root .result) (start .args .top) ∙ l)
+    let out = c .before .before .before in
+    let start = out .before in
+    lay-starts (start .fits .part .fits) (start .pre .1) (out .root .ensures) (c .before .difference .ensures) (c .excluding .ensures)
+    (start .args .top)
 
 lay-lowest-requires : (t : ℕ) → lay-lts.Need-lowest-requires (claims t) (lay-at t) lay.Post lay-Inv-loop lay-μ-loop
 lay-lowest-requires t c κs = search needs
 
 lay-component-requires : (t : ℕ) → lay-lts.Need-component-requires (claims t) (lay-at t) lay.Post lay-Inv-loop lay-μ-loop
-lay-component-requires t c κs = search needs
+lay-component-requires t c κs = c .before .before .before .before .before .before .before .pre .1 .groups .long
 
 lay-cast-lay : (t : ℕ) → lay-lts.Need-cast-lay (claims t) (lay-at t) lay.Post lay-Inv-loop lay-μ-loop
-lay-cast-lay t c = omega (arith, root-unit t (c .before .before .before .before .before .before))
+lay-cast-lay t c = omega (arith, root-unit t (c .before .before .before .before .before .before .before))
 
 lay-lay-requires : (t : ℕ) → lay-lts.Need-lay-requires (claims t) (lay-at t) lay.Post lay-Inv-loop lay-μ-loop
 lay-lay-requires t c κs =
-    let turn = c .before .before in
+    let turn = c .before .before .before in
     let out = turn .before .before in
-    let start = out .before .before .before in
-    let tab = good-table t start in
-    let smaller : size (c .component .result) ≤ size (out .excluding .result) =
-    turn-size tab (turn .before .loop .inv) (turn .loop-test .taken) (c .before .lowest .ensures) (c .component .ensures) in
+    let start = out .before .before .before .before in
+    let tab = start .pre .1 .groups in
+    let smaller : size (c .before .component .result) ≤ size (out .excluding .result) =
+    turn-size tab (turn .before .loop .inv) (turn .loop-test .taken) (c .before .before .lowest .ensures) (c .before .component .ensures) in
     let falls : size (out .excluding .result) < size (start .args .part) =
-    lay-smaller tab (start .fits .part .fits) (start .pre .1) (out .before .before .root .ensures) (out .before .difference .ensures)
+    lay-smaller (start .fits .part .fits) (start .pre .1) (out .before .before .before .root .ensures) (out .before .difference .ensures)
     (out .excluding .ensures) in (
       omega (arith, start .pre .0),
-      turn-layable tab (turn .before .loop .inv) (turn .loop-test .taken) (c .before .lowest .ensures)
-          (c .component .ensures) (start .pre .1 .table),
+      turn-layable tab (turn .before .loop .inv) (turn .loop-test .taken) (c .before .before .lowest .ensures)
+          (c .before .component .ensures) (start .pre .1 .table),
     )
 
 lay-difference-requires-2 : (t : ℕ) → lay-lts.Need-difference-requires-2 (claims t) (lay-at t) lay.Post lay-Inv-loop lay-μ-loop
@@ -118,25 +117,24 @@ lay-difference-requires-2 t c κs = search needs
 
 lay-loop-less : (t : ℕ) → lay-lts.Need-loop-less (claims t) (lay-at t) lay.Post lay-Inv-loop lay-μ-loop
 lay-loop-less t c =
-    let turn = c .before .before .before .before in
-    turn-less (good-table t (turn .before .before .before .before .before)) (turn .before .loop .inv) (turn .loop-test .taken)
-    (c .before .before .before .lowest .ensures) (c .before .before .component .ensures) (c .difference2 .ensures)
+    let next = c .before .before .before in
+    let turn = next .before .before in
+    turn-less (tables t turn) (turn .before .loop .inv) (turn .loop-test .taken) (next .before .lowest .ensures) (next .component .ensures)
+    (c .difference2 .ensures)
 
 lay-loop-again : (t : ℕ) → lay-lts.Need-loop-again (claims t) (lay-at t) lay.Post lay-Inv-loop lay-μ-loop
 lay-loop-again t c =
-    let turn = c .before .before .before .before in
-    let l : length (c .before .lay .result) ≡ 32 = search needs in
-    turn-again (good-table t (turn .before .before .before .before .before)) (turn .before .loop .inv) (turn .loop-test .taken)
-    (c .before .before .before .lowest .ensures) (c .before .before .component .ensures) (c .difference2 .ensures) l (c .before .lay .ensures)
+    let next = c .before .before .before in
+    let turn = next .before .before in
+    turn-again (tables t turn) (turn .before .loop .inv) (turn .loop-test .taken) (next .before .lowest .ensures) (next .component .ensures)
+    (c .difference2 .ensures) (c .before .lay .ensures)
 
 lay-returns : (t : ℕ) → lay-lts.Need-returns (claims t) (lay-at t) lay.Post lay-Inv-loop lay-μ-loop
 lay-returns t c =
     let out = c .before .before in
-    let start = out .before .before .before in
-    let l : length (start .args .parents) ≡ 32 = search needs in
-    lay-ends (good-table t start) (start .fits .part .fits) (start .pre .1) (out .before .before .root .ensures)
-    (out .before .difference .ensures) (out .excluding .ensures)
-    l (c .before .loop .inv) (c .loop-test .left)
+    let start = out .before .before .before .before in
+    lay-ends (start .fits .part .fits) (start .pre .1) (out .before .before .before .root .ensures)
+    (out .before .difference .ensures) (out .excluding .ensures) (c .before .loop .inv) (c .loop-test .left)
 
 pub +lay-spec : {M : Type 1} → statement M
 +lay-spec = close μ-lay λ t. lay-lts.spec (claims t)
@@ -145,9 +143,9 @@ pub +lay-spec : {M : Type 1} → statement M
     lay-Inv-loop
     lay-μ-loop
     (lay-root-requires t)
-    (lay-array-write-table t)
+    (lay-element-write-parents t)
     (lay-mul-difference t)
-    (lay-array-read-difference t)
+    (lay-element-copy-out-difference t)
     (lay-difference-requires t)
     (lay-excluding-requires t)
     (lay-loop-holds t)

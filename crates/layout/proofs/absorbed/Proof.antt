@@ -14,17 +14,13 @@ union-requires c κs = search needs
 returns : tie.Need-returns
 unfolding absorbed
 returns c =
-    let n = c .before .if2 .taken in
+    let n = c .before .if1 .taken in
     let i = c .before .before .intersection .ensures in
-    rw (c .before .before .before .if1 .taken, ne-eqb _ 0 (λ e. n (i ∙ e))) (c .union .ensures)
+    rw (ne-eqb _ 0 (λ e. n (i ∙ e))) (c .union .ensures)
 
 returns-2 : tie.Need-returns-2
 unfolding absorbed
-returns-2 c = rw (c .before .before .if1 .taken, eq-eqb _ 0 (sym (c .before .intersection .ensures) ∙ c .if2 .left))
-
-returns-3 : tie.Need-returns-3
-unfolding absorbed
-returns-3 c = rw (c .if1 .left)
+returns-2 c = rw (eq-eqb _ 0 (sym (c .before .intersection .ensures) ∙ c .if1 .left))
 
 pub absorbed-spec : {M : Type 1} → statement M
-absorbed-spec = tie.close (tie.spec intersection-requires union-requires returns returns-2 returns-3)
+absorbed-spec = tie.close (tie.spec intersection-requires union-requires returns returns-2)

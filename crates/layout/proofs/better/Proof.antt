@@ -25,7 +25,7 @@ returns-2 : tie.Need-returns-2
 unfolding betterOf
 returns-2 c =
     let a = c .before .before .before .before .before .before .args in
-    let h : degreeIn (a .of) (a .r) < degreeIn (a .of) (a .k) = omega arith in
+    let h : degreeIn (a .of .now) (a .r) < degreeIn (a .of .now) (a .k) = omega arith in
     simp (
       sym (c .before .before .before .before .before .member .ensures) ∙ c .before .before .before .before .if1 .taken,
       ne-eqb _ _
@@ -37,7 +37,7 @@ returns-3 : tie.Need-returns-3
 unfolding betterOf
 returns-3 c =
     let a = c .before .before .before .before .before .before .args in
-    let h : degreeIn (a .of) (a .k) ≤ degreeIn (a .of) (a .r) = omega arith in
+    let h : degreeIn (a .of .now) (a .k) ≤ degreeIn (a .of .now) (a .r) = omega arith in
     simp (
       sym (c .before .before .before .before .before .member .ensures) ∙ c .before .before .before .before .if1 .taken,
       ne-eqb _ _

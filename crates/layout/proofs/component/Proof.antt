@@ -20,7 +20,7 @@ single-requires c κs = search needs
 
 loop-holds : tie.Need-loop-holds Inv-loop μ-loop
 unfolding component
-loop-holds c = ap (rounds 32 (c .before .args .groups) (c .before .args .live)) (c .single .ensures)
+loop-holds c = ap (rounds 32 (c .before .args .groups .now) (c .before .args .live)) (c .single .ensures)
 
 spread-requires : tie.Need-spread-requires Inv-loop μ-loop
 spread-requires c κs = search needs
@@ -29,7 +29,7 @@ returns : tie.Need-returns Inv-loop μ-loop
 returns c =
     let l = c .before .before .before .loop in
     let a = c .before .before .before .before .before .args in
-    sym (rounds-fixed (a .groups) (a .live) (l .left) (l .set) (sym (c .before .spread .ensures) ∙ c .if1 .taken)) ∙ l .inv
+    sym (rounds-fixed (a .groups .now) (a .live) (l .left) (l .set) (sym (c .before .spread .ensures) ∙ c .if1 .taken)) ∙ l .inv
 
 sub-left : tie.Need-sub-left Inv-loop μ-loop
 sub-left c = search needs
@@ -43,8 +43,8 @@ loop-again c =
     let l = c .before .before .before .loop in
     let a = c .before .before .before .before .before .args in
     let k : suc (l .left - 1) ≡ l .left = omega arith in
-    ap (rounds (l .left - 1) (a .groups) (a .live)) (c .before .spread .ensures)
-    ∙ ap (λ (n : ℕ). rounds n (a .groups) (a .live) (l .set)) k ∙ l .inv
+    ap (rounds (l .left - 1) (a .groups .now) (a .live)) (c .before .spread .ensures)
+    ∙ ap (λ (n : ℕ). rounds n (a .groups .now) (a .live) (l .set)) k ∙ l .inv
 
 returns-2 : tie.Need-returns-2 Inv-loop μ-loop
 unfolding rounds
@@ -52,7 +52,7 @@ returns-2 c =
     let l = c .before .loop in
     let a = c .before .before .before .args in
     let k : 0 ≡ l .left = omega arith in
-    ap (λ (n : ℕ). rounds n (a .groups) (a .live) (l .set)) k ∙ l .inv
+    ap (λ (n : ℕ). rounds n (a .groups .now) (a .live) (l .set)) k ∙ l .inv
 
 pub component-spec : {M : Type 1} → statement M
 component-spec =

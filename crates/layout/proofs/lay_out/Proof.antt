@@ -1,10 +1,10 @@
 use borrow.Author.Needs.{needs}
-use mathlib.Core.Path.{_≡_, refl}
-use lib.ListN.{length, getD}
+use mathlib.Core.Path.{refl}
+use lib.ListN.{getD}
 use mir.Syntax.{w32}
 use mir.Val.{Fits}
 use Rattle.sets.specs.Sets.{size}
-use Rattle.layout.proofs.Parts.{Table}
+use Rattle.layout.specs.Layout.{Table}
 use Rattle.layout.proofs.Laying.{Laying, turn-layable, turn-less, turn-again, all-starts, all-ends}
 use Rattle.layout.proofs.lay_out.Statement.{statement}
 use Rattle.layout.proofs.lay_out.Tie as tie
@@ -16,8 +16,12 @@ abbrev μ-loop : tie.MeasureT-loop
 μ-loop groups of all table₀ rest₀ table rest = size rest
 
 -- what the parameter's type says: 24 groups of 32 bits
-good-table : (c : tie.Start Inv-loop μ-loop) → Table (c .args .groups)
-good-table c = record { long = search needs; bounded = λ i. let f : Fits w32 (getD (c .args .groups) i 0) = search needs in f .fits }
+good-table : (c : tie.Start Inv-loop μ-loop) → Table (c .args .t1)
+good-table c = record { long = search needs; bounded = λ i. let f : Fits w32 (getD (c .args .t1) i 0) = search needs in f .fits }
+
+-- in a turn of the loop
+tables : (c : tie.In-loop Inv-loop μ-loop) → Table (c .before .before .before .before .before .before .args .t1)
+tables c = good-table (c .before .before .before .before .before .before)
 
 memberships-requires : tie.Need-memberships-requires Inv-loop μ-loop
 memberships-requires c κs = search needs
@@ -29,19 +33,19 @@ below-requires-2 : tie.Need-below-requires-2 Inv-loop μ-loop
 below-requires-2 c κs = search needs
 
 loop-holds : tie.Need-loop-holds Inv-loop μ-loop
-loop-holds c = all-starts (good-table (c .before .before .before)) (c .before .below .ensures) (c .below2 .ensures) refl
+loop-holds c = all-starts (good-table (c .before .before .before .before)) (c .before .below .ensures) (c .below2 .ensures) refl
 
 lowest-requires : tie.Need-lowest-requires Inv-loop μ-loop
 lowest-requires c κs = search needs
 
 component-requires : tie.Need-component-requires Inv-loop μ-loop
-component-requires c κs = search needs
+component-requires c κs = tables (c .before .before) .long
 
 lay-requires : tie.Need-lay-requires Inv-loop μ-loop
 lay-requires c κs =
-    let turn = c .before .before in
-    let start = turn .before .before .before .before .before in
-    turn-layable (good-table start) (turn .before .loop .inv) (turn .loop-test .taken) (c .before .lowest .ensures) (c .component .ensures)
+    let next = c .before .before .before in
+    let turn = next .before .before .before in
+    turn-layable (tables turn) (turn .before .loop .inv) (turn .loop-test .taken) (next .before .lowest .ensures) (next .component .ensures)
     (turn .before .before .before .before .memberships .ensures)
 
 difference-requires : tie.Need-difference-requires Inv-loop μ-loop
@@ -49,16 +53,17 @@ difference-requires c κs = search needs
 
 loop-less : tie.Need-loop-less Inv-loop μ-loop
 loop-less c =
-    let turn = c .before .before .before .before in
-    turn-less (good-table (turn .before .before .before .before .before)) (turn .before .loop .inv) (turn .loop-test .taken)
-    (c .before .before .before .lowest .ensures) (c .before .before .component .ensures) (c .difference .ensures)
+    let next = c .before .before .before .before .before in
+    let turn = next .before .before .before in
+    turn-less (tables turn) (turn .before .loop .inv) (turn .loop-test .taken) (next .before .lowest .ensures) (next .component .ensures)
+    (c .difference .ensures)
 
 loop-again : tie.Need-loop-again Inv-loop μ-loop
 loop-again c =
-    let turn = c .before .before .before .before in
-    let l : length (c .before .lay .result) ≡ 32 = search needs in
-    turn-again (good-table (turn .before .before .before .before .before)) (turn .before .loop .inv) (turn .loop-test .taken)
-    (c .before .before .before .lowest .ensures) (c .before .before .component .ensures) (c .difference .ensures) l (c .before .lay .ensures)
+    let next = c .before .before .before .before .before in
+    let turn = next .before .before .before in
+    turn-again (tables turn) (turn .before .loop .inv) (turn .loop-test .taken) (next .before .lowest .ensures) (next .component .ensures)
+    (c .difference .ensures) (c .before .lay .ensures)
 
 returns : tie.Need-returns Inv-loop μ-loop
 returns c = all-ends (c .before .before .before .below .ensures) (c .before .before .below2 .ensures) (c .before .loop .inv) (c .loop-test .left)

@@ -1,40 +1,53 @@
 use borrow.Author.Needs.{needs}
-use mathlib.Core.Path.{refl}
+use mathlib.Core.Path.{refl, ap, _∙_}
 use Prim.Native.Nat.{_-_}
-use Rattle.layout.specs.Build.{groupsOf}
-use Rattle.layout.proofs.Loops.{Filled, filled-none, filled-turn, filled-all}
+use native.Mathlib.Omega.{arith}
+use lib.ListN.{length}
+use Rattle.sets.specs.Sets.{collect}
+use Rattle.layout.specs.Tables.{tabulate}
+use Rattle.layout.specs.Build.{holdsAt, groupsOf}
+use Rattle.layout.specs.Layout.{withGroup}
+use Rattle.layout.proofs.Tables.{length-tabulate}
+use Rattle.layout.proofs.Loops.{Reached, reached-turn, reached-all, collected-more}
 use Rattle.layout.proofs.memberships.Statement.{statement}
 use Rattle.layout.proofs.memberships.Tie as tie
 
 abbrev Inv-loop : tie.InvT-loop
-Inv-loop groups table₀ u₀ table u = Filled 32 (groupsOf groups) table u
+Inv-loop groups table₀ i₀ table i = Reached 24 (λ k. tabulate 32 (λ u. collect k (holdsAt groups u))) table i
 
 abbrev μ-loop : tie.MeasureT-loop
-μ-loop groups table₀ u₀ table u = 32 - u
+μ-loop groups table₀ i₀ table i = 24 - i
 
 loop-holds : tie.Need-loop-holds Inv-loop μ-loop
-loop-holds c = filled-none refl
+unfolding collect tabulate
+loop-holds c = record { within = omega arith; right = refl }
 
-groups-of-requires : tie.Need-groups-of-requires Inv-loop μ-loop
-groups-of-requires c κs = search needs
+mul-add-group : tie.Need-mul-add-group Inv-loop μ-loop
+mul-add-group c = search needs
 
-mul-table : tie.Need-mul-table Inv-loop μ-loop
-mul-table c = search needs
+element-copy-out-add-group : tie.Need-element-copy-out-add-group Inv-loop μ-loop
+element-copy-out-add-group c = search needs
 
-array-write-table : tie.Need-array-write-table Inv-loop μ-loop
-array-write-table c = search needs
+add-group-requires : tie.Need-add-group-requires Inv-loop μ-loop
+add-group-requires c κs = ap length (c .before .before .before .loop .inv .right) ∙ length-tabulate 32 _
 
-add-u : tie.Need-add-u Inv-loop μ-loop
-add-u c = search needs
+add-i : tie.Need-add-i Inv-loop μ-loop
+add-i c = search needs
 
 loop-less : tie.Need-loop-less Inv-loop μ-loop
 loop-less c = search needs
 
 loop-again : tie.Need-loop-again Inv-loop μ-loop
-loop-again c = filled-turn (c .before .before .loop .inv) (c .before .loop-test .taken) (c .groups-of .ensures)
+unfolding withGroup holdsAt
+loop-again c =
+    let turn = c .before .before .before in
+    let inv = turn .before .loop .inv in
+    reached-turn inv (turn .loop-test .taken)
+    (c .add-group .ensures ∙ collected-more 32 _ (holdsAt (turn .before .before .args .groups .now)) _ (inv .right))
 
 returns : tie.Need-returns Inv-loop μ-loop
-returns c = filled-all (c .before .loop .inv) (c .loop-test .left)
+unfolding groupsOf
+returns c = reached-all (c .before .loop .inv) (c .loop-test .left)
 
 pub memberships-spec : {M : Type 1} → statement M
 memberships-spec =
@@ -43,10 +56,10 @@ memberships-spec =
     Inv-loop
     μ-loop
     loop-holds
-    groups-of-requires
-    mul-table
-    array-write-table
-    add-u
+    mul-add-group
+    element-copy-out-add-group
+    add-group-requires
+    add-i
     loop-less
     loop-again
     returns)

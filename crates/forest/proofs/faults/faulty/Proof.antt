@@ -39,14 +39,14 @@ returns : tie.Need-returns
 unfolding faulty
 returns c =
     let a = c .before .before .before .args in
-    c .empty-at .ensures ∙ sym (ap (λ (f : Fault). faulty f (a .units) (a .count) (a .groups) (a .parents) (a .i))
+    c .empty-at .ensures ∙ sym (ap (λ (f : Fault). faulty f (a .units) (a .count) (a .groups .now) (a .parents) (a .i))
     (c .before .enum-told .given .1))
 
 returns-2 : tie.Need-returns-2
 unfolding faulty
 returns-2 c =
     let a = c .before .before .before .args in
-    c .outside-at .ensures ∙ sym (ap (λ (f : Fault). faulty f (a .units) (a .count) (a .groups) (a .parents) (a .i))
+    c .outside-at .ensures ∙ sym (ap (λ (f : Fault). faulty f (a .units) (a .count) (a .groups .now) (a .parents) (a .i))
     (c .before .enum-told2 .given .1))
 
 returns-3 : tie.Need-returns-3
@@ -54,21 +54,21 @@ unfolding faulty
 returns-3 c =
     let a = c .before .before .before .args in
     c .outside-parent .ensures ∙ sym
-    (ap (λ (f : Fault). faulty f (a .units) (a .count) (a .groups) (a .parents) (a .i)) (c .before .enum-told3 .given .1))
+    (ap (λ (f : Fault). faulty f (a .units) (a .count) (a .groups .now) (a .parents) (a .i)) (c .before .enum-told3 .given .1))
 
 returns-4 : tie.Need-returns-4
 unfolding faulty
 returns-4 c =
     let a = c .before .before .before .args in
     c .own-ancestor .ensures ∙ sym
-    (ap (λ (f : Fault). faulty f (a .units) (a .count) (a .groups) (a .parents) (a .i)) (c .before .enum-told4 .given .1))
+    (ap (λ (f : Fault). faulty f (a .units) (a .count) (a .groups .now) (a .parents) (a .i)) (c .before .enum-told4 .given .1))
 
 returns-5 : tie.Need-returns-5
 unfolding faulty
 returns-5 c =
     let a = c .before .before .before .args in
     c .lacks-primary .ensures ∙ sym
-    (ap (λ (f : Fault). faulty f (a .units) (a .count) (a .groups) (a .parents) (a .i)) (c .before .enum-told5 .given .1))
+    (ap (λ (f : Fault). faulty f (a .units) (a .count) (a .groups .now) (a .parents) (a .i)) (c .before .enum-told5 .given .1))
 
 pub faulty-spec : {M : Type 1} → statement M
 faulty-spec =

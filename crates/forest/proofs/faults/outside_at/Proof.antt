@@ -1,4 +1,5 @@
 use borrow.Author.Needs.{needs}
+use native.Mathlib.Omega.{arith}
 use Rattle.forest.specs.Calls.{outsideAt}
 use lib.ListN.{List·getD-eq-default}
 use Rattle.forest.proofs.Shared.{no-difference}
@@ -7,13 +8,13 @@ use Rattle.forest.proofs.faults.outside_at.Tie as tie
 
 returns : tie.Need-returns
 unfolding outsideAt
-returns c = simp (List·getD-eq-default (c .before .args .t2) 0 {n = c .before .args .i} (search needs), no-difference)
+returns c = simp (List·getD-eq-default (c .before .args .groups .now) 0 {n = c .before .args .i} (omega (arith, c .before .pre)), no-difference)
 
 mul-difference : tie.Need-mul-difference
 mul-difference c = search needs
 
-array-read-difference : tie.Need-array-read-difference
-array-read-difference c = search needs
+element-copy-out-difference : tie.Need-element-copy-out-difference
+element-copy-out-difference c = search needs
 
 below-requires : tie.Need-below-requires
 below-requires c κs = search needs
@@ -31,7 +32,7 @@ outside-at-spec =
     (tie.spec
     returns
     mul-difference
-    array-read-difference
+    element-copy-out-difference
     below-requires
     difference-requires
     returns-2)

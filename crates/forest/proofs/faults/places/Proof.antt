@@ -6,10 +6,10 @@ use Rattle.forest.proofs.faults.places.Statement.{statement}
 use Rattle.forest.proofs.faults.places.Tie as tie
 
 abbrev Inv-loop : tie.InvT-loop
-Inv-loop fault units groups count parents set₀ i₀ set i = Collected 32 (faulty fault units count groups parents) set i
+Inv-loop fault units count parents groups set₀ i₀ set i = Collected 32 (faulty fault units count groups parents) set i
 
 abbrev μ-loop : tie.MeasureT-loop
-μ-loop fault units groups count parents set₀ i₀ set i = 32 - i
+μ-loop fault units count parents groups set₀ i₀ set i = 32 - i
 
 loop-holds : tie.Need-loop-holds Inv-loop μ-loop
 loop-holds c = collected-none _
@@ -27,7 +27,8 @@ loop-less : tie.Need-loop-less Inv-loop μ-loop
 loop-less c = search needs
 
 loop-again : tie.Need-loop-again Inv-loop μ-loop
-loop-again c = collected-turn _ (c .before .before .before .loop .inv) (c .before .before .loop-test .taken) (c .before .faulty .ensures)
+loop-again c =
+    collected-turn _ (c .before .before .before .before .loop .inv) (c .before .before .before .loop-test .taken) (c .before .faulty .ensures)
     (c .including-if .ensures)
 
 returns : tie.Need-returns Inv-loop μ-loop

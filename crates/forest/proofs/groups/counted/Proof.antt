@@ -7,13 +7,19 @@ use Rattle.forest.proofs.groups.counted.Statement.{statement}
 use Rattle.forest.proofs.groups.counted.Tie as tie
 
 abbrev Inv-loop : tie.InvT-loop
-Inv-loop groups count table₀ i₀ table i = Filled 24 (countedAt count groups) table i
+Inv-loop count groups table₀ i₀ table i = Filled 24 (countedAt count groups) table i
 
 abbrev μ-loop : tie.MeasureT-loop
-μ-loop groups count table₀ i₀ table i = 24 - i
+μ-loop count groups table₀ i₀ table i = 24 - i
 
 loop-holds : tie.Need-loop-holds Inv-loop μ-loop
 loop-holds c = filled-none refl
+
+mul-counted-at : tie.Need-mul-counted-at Inv-loop μ-loop
+mul-counted-at c = search needs
+
+array-read-counted-at : tie.Need-array-read-counted-at Inv-loop μ-loop
+array-read-counted-at c = search needs
 
 counted-at-requires : tie.Need-counted-at-requires Inv-loop μ-loop
 counted-at-requires c κs = search needs
@@ -31,6 +37,7 @@ loop-less : tie.Need-loop-less Inv-loop μ-loop
 loop-less c = search needs
 
 loop-again : tie.Need-loop-again Inv-loop μ-loop
+unfolding countedAt
 loop-again c = filled-turn (c .before .before .loop .inv) (c .before .loop-test .taken) (c .counted-at .ensures)
 
 returns : tie.Need-returns Inv-loop μ-loop
@@ -44,6 +51,8 @@ counted-spec =
     Inv-loop
     μ-loop
     loop-holds
+    mul-counted-at
+    array-read-counted-at
     counted-at-requires
     mul-table
     array-write-table

@@ -4,14 +4,14 @@ use mathlib.Core.Path.{_≡_, ap}
 use Prim.Native.Nat.{ℕ}
 use Rattle.forest.specs.Forest.{ancestorsWithin}
 use Rattle.forest.proofs.Shared.{Climbed, climbed-none, climbed-turn, climbed-all, no-ancestors}
-use Rattle.forest.proofs.routes.ancestors.Statement.{statement}
-use Rattle.forest.proofs.routes.ancestors.Tie as tie
+use Rattle.forest.proofs.routes.climbed.Statement.{statement}
+use Rattle.forest.proofs.routes.climbed.Tie as tie
 
 abbrev Inv-loop : tie.InvT-loop
-Inv-loop unit parents set₀ u₀ left₀ set u left = Climbed parents unit set u left
+Inv-loop parents unit set₀ u₀ left₀ set u left = Climbed parents unit set u left
 
 abbrev μ-loop : tie.MeasureT-loop
-μ-loop unit parents set₀ u₀ left₀ set u left = left
+μ-loop parents unit set₀ u₀ left₀ set u left = left
 
 loop-holds : tie.Need-loop-holds Inv-loop μ-loop
 loop-holds c = climbed-none _ _
@@ -22,11 +22,11 @@ returns c = climbed-all (c .before .before .loop .inv) (no-ancestors _ _ _ (c .i
 including-requires : tie.Need-including-requires Inv-loop μ-loop
 including-requires c κs = search needs
 
-array-read-u : tie.Need-array-read-u Inv-loop μ-loop
-array-read-u c = search needs
+element-copy-out-index : tie.Need-element-copy-out-index Inv-loop μ-loop
+element-copy-out-index c = search needs
 
-cast-u : tie.Need-cast-u Inv-loop μ-loop
-cast-u c = search needs
+index-requires : tie.Need-index-requires Inv-loop μ-loop
+index-requires c κs = search needs
 
 sub-left : tie.Need-sub-left Inv-loop μ-loop
 sub-left c = search needs
@@ -36,17 +36,19 @@ loop-less c = search needs
 
 loop-again : tie.Need-loop-again Inv-loop μ-loop
 loop-again c =
-    climbed-turn (c .before .before .before .loop .inv) (c .before .before .loop-test .taken) (c .before .if1 .left) (search needs)
-    (c .including .ensures)
+    let step = c .before .before in
+    let turn = step .before .before in
+    rw (c .index .ensures) (climbed-turn (turn .before .loop .inv) (turn .loop-test .taken) (step .before .if1 .left)
+    (omega (arith, turn .before .before .pre, step .before .if1 .left)) (step .including .ensures))
 
 returns-2 : tie.Need-returns-2 Inv-loop μ-loop
 unfolding ancestorsWithin
 returns-2 c =
     let e : c .before .loop .left ≡ 0 = omega arith in
-    climbed-all (c .before .loop .inv) (ap (λ (k : ℕ). ancestorsWithin k (c .before .before .args .t1) (c .before .loop .u)) e)
+    climbed-all (c .before .loop .inv) (ap (λ (k : ℕ). ancestorsWithin k (c .before .before .args .parents .now) (c .before .loop .u)) e)
 
-pub ancestors-spec : {M : Type 1} → statement M
-ancestors-spec =
+pub climbed-spec : {M : Type 1} → statement M
+climbed-spec =
     tie.close
     (tie.spec
     Inv-loop
@@ -54,8 +56,8 @@ ancestors-spec =
     loop-holds
     returns
     including-requires
-    array-read-u
-    cast-u
+    element-copy-out-index
+    index-requires
     sub-left
     loop-less
     loop-again

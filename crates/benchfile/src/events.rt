@@ -1,6 +1,9 @@
 // The lines of events: read into a list that `read` keeps, and copied to the caller's list only once all lines are known to be good.
 use lines::event;
+ghost use mathlib.Core.Path.{_≡_};
+ghost use mathlib.Core.Logic.{_⊎_};
 ghost use mathlib.Core.List.{[], _∷_};
+ghost use Prim.Native.Nat.{_≤_};
 ghost use lib.ListN.{take};
 ghost use Rattle.text.specs.Writing.{Written};
 ghost use Rattle.benchfile.specs.Steps.{EventsRead, NumbersPut, EventsStored};
@@ -56,20 +59,27 @@ fn read_events(rest: &[u8], kept: &mut [u16]) -> Tally
     Tally { fault: 0, count }
 }
 
+// The lower of two numbers.
+fn lower(a: usize, b: usize) -> usize
+    ensures { λ r. ⌜ (r ≤ a) × (r ≤ b) × ((r ≡ a) ⊎ (r ≡ b)) ⌝ }
+{
+    if a < b {
+        return a;
+    }
+    b
+}
+
 // Puts the first so many numbers of a list at the start of another; answers the next place.
 fn copy(list: &mut [u16], from: &[u16], count: usize) -> usize
     ensures { λ r. ⌜ Written (take count (now (from .entry))) 0 (now (list .entry)) r (now (list .exit)) ⌝ }
 {
-    let mut next = 0;
+    let end = lower(count, lower(from.len(), list.len()));
     let mut i = 0;
-    while i < from.len() {
-        if count <= i {
-            return next;
-        }
-        next = put(list, next, from[i]);
+    while i < end {
+        list[i] = from[i];
         i += 1;
     }
-    next
+    i
 }
 
 // Reads the events at the start of the rest of a file and, where all lines are good, stores them. Meanwhile their numbers go to `kept`, a list of at least

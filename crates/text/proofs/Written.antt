@@ -62,6 +62,10 @@ pub written-past : (b at : ℕ) (list : List ℕ) → length list ≤ at → Wri
 unfolding reach
 written-past b at list h = record { ends = simp (le-ltb at (length list) h); holds = sym (set-out list at b h) }
 
+-- any text, at the end
+pub written-over : (t : List ℕ) (at : ℕ) (list : List ℕ) → length list ≤ at → Written t at list at list
+written-over t at list h = record { ends = sym (reach-end at (length t) (length list) h); holds = sym (sets-end t list at h) }
+
 pub written-length : {t list left : List ℕ} {at place : ℕ} → Written t at list place left → length left ≡ length list
 written-length {t} {list} {at = at} w = ap length (w .holds) ∙ length-sets list at t
 

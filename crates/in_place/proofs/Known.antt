@@ -18,11 +18,11 @@ use denote.Builtin.{bool, unit, u8, u16, u32, usize}
 use denote.RattleType.{RattleType}
 use Rattle.model.specs.declared.Hop.{Hop}
 use Rattle.relay.specs.declared.Bench.{Bench}
-use Rattle.relay.specs.Machine.{received, isGoing, searchFrom, searchEnd, movedTo, takeArrival, takeHops, takeBook, arriveResult, arriveHops, arriveBook}
+use Rattle.relay.specs.Machine.{arriveRefusal, received, isGoing, searchFrom, searchEnd, movedTo, takeArrival, takeHops, takeBook, arriveResult, arriveHops, arriveBook}
 use Rattle.relay.specs.Machine.{sendRefusal, firstHop, sentResult, sendResult, sendHops, restReply}
 use Rattle.in_place.specs.declared.Totals.{Totals}
 use Rattle.in_place.specs.InPlace.{benchIn, madeRow, passageOf, arrivalIn, alone, deliveryIn, logDelivery, outgoingOf, afterDelivery, nextIn, settledIn, finishedIn}
-use Rattle.in_place.specs.InPlace.{finishedRows, arrivedIn, arriveRows, sentIn, sendMessages, sendRows, tablesOf, noTotals}
+use Rattle.in_place.specs.InPlace.{finishedRows, isClosed, closedIn, arrivedIn, arriveRows, sentIn, sendMessages, sendRows, tablesOf, noTotals}
 use Rattle.hops.proofs.Records.{R, by-hop}
 use Rattle.hops.proofs.Called.{O, by-outgoing}
 use Rattle.relay.proofs.Known.{by-rest-reply, by-counts}
@@ -98,6 +98,17 @@ module _ {M : Type 1} (𝓤 : URA M) (H : Heap 𝓤) (A : Atoms 𝓤) where
   -- ---- of arriving.rt
   abbrev pub place-of-callee : Callee 𝓤 H A
   place-of-callee = by-rule 𝓤 H A (value u16 (by-uint w16) ∷ []) usize (by-uint w64) (λ d. d .0)
+
+  abbrev pub refusal-at-callee : Callee 𝓤 H A
+  refusal-at-callee =
+      by-rule 𝓤 H A (value T by-totals ∷ value u16 (by-uint w16) ∷ value usize (by-uint w64) ∷ value usize (by-uint w64) ∷ []) u8 (by-uint w8)
+      (λ d. arriveRefusal (d .0 .made) (d .1 .0) (d .1 .1 .0) (d .1 .1 .1 .0))
+
+  abbrev pub is-closed-callee : Callee 𝓤 H A
+  is-closed-callee = by-rule 𝓤 H A (value u8 (by-uint w8) ∷ value R by-hop ∷ []) bool by-bool (λ d. isClosed (d .0) (d .1 .0))
+
+  abbrev pub closed-callee : Callee 𝓤 H A
+  closed-callee = by-rule 𝓤 H A (value T by-totals ∷ value u8 (by-uint w8) ∷ value R by-hop ∷ []) Arrived.the-row by-arrived (λ d. closedIn (d .0) (d .1 .0) (d .1 .1 .0))
 
   abbrev pub begun-callee : Callee 𝓤 H A
   begun-callee =

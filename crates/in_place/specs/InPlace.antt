@@ -1,11 +1,13 @@
 -- The bench that lists say, and what each function of the crate computes. Definitions only.
 use Prim.Native.Nat.{ℕ, _+_, _-_, _%_}
-use mathlib.Core.Bool.{cond}
+use mathlib.Core.Bool.{Bool, not, cond}
 use mathlib.Core.List.{List, [], map}
 use lib.Dec.{ltb, eqb}
 use lib.ListN.{getD, set, take, drop, replicate}
 use Rattle.sets.specs.Sets.{member, intersection, size}
 use Rattle.model.specs.declared.Hop.{Hop}
+use Rattle.model.specs.Network.{isOut}
+use Rattle.model.specs.Rules.{refuse}
 use Rattle.layout.specs.Tables.{tabulate}
 use Rattle.routing.specs.declared.Topology.{Topology}
 use Rattle.tables.specs.declared.messages.Messages.{Messages}
@@ -15,7 +17,8 @@ use Rattle.relay.specs.declared.Bench.{Bench}
 use Rattle.relay.specs.declared.Arrived.{Arrived as ArrivedBench}
 use Rattle.relay.specs.declared.Sent.{Sent as SentBench}
 use Rattle.relay.specs.declared.arrival.Arrival.{Arrival}
-use Rattle.relay.specs.Machine.{nextArrival, Settling, settled, finishedReply, arriveEnd}
+use Rattle.relay.specs.declared.replies.ArriveReply.the-variants.{Held, Repeat, ListTooShort, NotMade}
+use Rattle.relay.specs.Machine.{isOpen, nextArrival, Settling, settled, finishedReply, arriveEnd}
 use Rattle.in_place.specs.declared.Totals.{Totals}
 use Rattle.in_place.specs.declared.Sent.{Sent}
 use Rattle.in_place.specs.declared.Arrived.{Arrived}
@@ -183,6 +186,16 @@ finishedTotals t p = cond (eqb (p .taken) 0) t (record { made = p .made; taken =
 
 unfoldable pub finishedIn : Totals → Passage → Arrived
 finishedIn t p = record { totals = finishedTotals t p; reply = finishedReply (alone p) }
+
+-- nothing changes where an arrival is turned away or its hop is not out
+unfoldable pub isClosed : ℕ → Hop → Bool
+isClosed refusal h = not (isOpen refusal h)
+
+unfoldable pub closedIn : Totals → ℕ → Hop → Arrived
+closedIn t refusal h = record {
+  totals = t;
+  reply = refuse (eqb refusal 1) ListTooShort (refuse (eqb refusal 16) NotMade (refuse (not (isOut h)) Repeat Held));
+}
 
 -- what `arrive` answers, from what the relay's call answers
 unfoldable pub arrivedIn : ArrivedBench → Arrived

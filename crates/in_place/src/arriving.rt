@@ -10,7 +10,7 @@ ghost use Prim.Native.Nat.{_-_};
 ghost use Rattle.relay.specs.Machine.{arriveRefusal, isOpen, isNext, received, isGoing as goes, searchFrom, searchEnd, movedTo, takeArrival, takeHops, takeBook, finishedReply};
 ghost use Rattle.relay.specs.Machine.{arriveResult, arriveHops, arriveBook};
 ghost use Rattle.in_place.specs.InPlace.{benchIn, madeRow, passageOf, arrivalIn, alone, deliveryIn, logDelivery, outgoingOf, afterDelivery, nextIn};
-ghost use Rattle.in_place.specs.InPlace.{settledIn, afterLength, updatedRows, finishedRows, finishedIn, arrivedIn, arriveRows};
+ghost use Rattle.in_place.specs.InPlace.{settledIn, afterLength, updatedRows, finishedRows, finishedIn, noTotals, isClosed, closedIn, arrivedIn, arriveRows};
 
 // What an arrival keeps: the fields of the relay's `Arrival`, less what stands in the lists.
 pub struct Passage {
@@ -82,6 +82,50 @@ fn less(a: u16, b: u16) -> u16
         return a - b;
     }
     0
+}
+
+// Why the arrival of a hop is turned away at a bench of such totals.
+fn refusal_at(t: Totals, hop: u16, hops: usize, book: usize) -> u8
+    ensures { λ r. ⌜ r ≡ arriveRefusal (t .made) hop hops book ⌝ }
+{
+    refusal(t.made, hop, hops, book)
+}
+
+// Whether an arrival changes nothing: it is turned away, or the hop is not out.
+fn is_closed(refusal: u8, hop: model::Hop) -> bool
+    ensures { λ r. ⌜ r ≡ isClosed refusal hop ⌝ }
+{
+    if refusal == 0 {
+        return hop.state != 0;
+    }
+    true
+}
+
+// What such an arrival answers.
+fn closed_reply(refusal: u8, hop: model::Hop) -> ArriveReply
+    ensures { λ r. ⌜ r ≡ closedIn noTotals refusal hop .reply ⌝ }
+{
+    if refusal == 1 {
+        return ArriveReply::ListTooShort;
+    }
+    if refusal == 16 {
+        return ArriveReply::NotMade;
+    }
+    if hop.state != 0 {
+        return ArriveReply::Repeat;
+    }
+    ArriveReply::Held
+}
+
+// What `arrive` answers there.
+fn closed(t: Totals, refusal: u8, hop: model::Hop) -> Arrived
+    ensures { λ r. ⌜ r ≡ closedIn t refusal hop ⌝ }
+{
+    let answer = closed_reply(refusal, hop);
+    Arrived {
+        totals: t,
+        reply: answer,
+    }
 }
 
 // The arrival of a hop, whose record is h, at a bench that is lent so many hops and log numbers.
@@ -385,6 +429,10 @@ pub fn arrive(
     let book_lent = book.len();
     let place = place_of(hop);
     let record = hops::read(hops, place);
+    let number = refusal_at(t, hop, hops_lent, book_lent);
+    if is_closed(number, record) {
+        return closed(t, number, record);
+    }
     let start = begun(t, hop, record, rows, hops_lent, book_lent);
     let hold = hold_place(start);
     hops::set_state(hops, hold, 1);

@@ -1,7 +1,10 @@
 -- Where a list is too short nothing is written; else the text stands in the part of the list that was lent for it.
-use mathlib.Core.Path.{sym, ap, _∙_}
+use mathlib.Core.Path.{_≡_, sym, ap, _∙_}
+use mathlib.Core.List.{List, _++_}
+use Prim.Native.Nat.{ℕ, _≤_}
 use borrow.Author.Needs.{needs}
 use borrow.Author.Tests.{lt-ltb, le-ltb}
+use lib.ListN.{length, drop}
 use lib.Seq.{length-take-le}
 use Rattle.benchfile.specs.Calls.{WroteBytes, writeAnswer, written, writeShort, writeSays, writeLeaves}
 use Rattle.benchfile.proofs.WrittenLines.{written-part}
@@ -35,19 +38,21 @@ put-file-requires c κs = search needs
 same-length : tie.Need-same-length
 same-length c = search needs
 
+-- where both lists are long enough
+wrote : (events out text : List ℕ) → 9000 ≤ length events → 32768 ≤ length out
+    → (writeSays (writeShort events out) text ≡ WroteBytes (length text)) × (writeLeaves (writeShort events out) text out ≡ text ++ drop (length text) out)
+unfolding writeSays writeShort writeLeaves
+wrote events out text many room = let list = le-ltb _ _ many in let long = le-ltb _ _ room in (simp (list, long), simp (list, long))
+
 returns-3 : tie.Need-returns-3
-unfolding writeAnswer writeSays writeShort writeLeaves written
+unfolding writeAnswer written
 returns-3 c =
     let call = c .before .before in
     let found = call .before .before .before in
     let a = found .before .before .before .before .args in
-    let list = le-ltb _ _ (found .before .if1 .left) in
-    let out = le-ltb _ _ (found .if2 .left) in
+    let rule = wrote (a .list .now) (a .out .now) (written (a .content) (a .list .now)) (found .before .if1 .left) (found .if2 .left) in
     let part = written-part (a .out .now) 32768 (found .if2 .left) (call .put-file .ensures) in
-    record {
-      answers = ap WroteBytes (part .0) ∙ sym (simp (list, out));
-      leaves = part .1 ∙ sym (simp (list, out));
-    }
+    record { answers = ap WroteBytes (part .0) ∙ sym (rule .0); leaves = part .1 ∙ sym (rule .1) }
 
 pub write-spec : {M : Type 1} → statement M
 write-spec =

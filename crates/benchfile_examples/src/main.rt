@@ -127,7 +127,14 @@ fn case(name: &[u8], file: &[u8]) {
     tried(name, file, 9000, 32768);
 }
 
-// Files that are read, and lists that are too short or longer than needed.
+// A file with lists that are longer than needed, or too short.
+fn lent(file: &[u8]) {
+    tried(b"9,100 numbers, 40,000 bytes lent", file, 9100, 40000);
+    tried(b"8,999 numbers lent", file, 8999, 32768);
+    tried(b"32,767 bytes lent", file, 9000, 32767);
+}
+
+// Files that are read.
 fn good() {
     let p8 =
         b"units=4\ngroups=4\ngroup=0,3\ngroup=0,1\ngroup=2,3\ngroup=1,2\nparents=-,2,0,2\nsend=3,0,500\nsend=1,2,600\narrive=0\narrive=1\narrive=2\narrive=4\narrive=3\n";
@@ -138,13 +145,11 @@ fn good() {
         b"largest numbers",
         b"units=32\ngroups=1\ngroup=31\nparents=build\nsend=65534,65535,65535\narrive=65535\n",
     );
-    tried(b"9,100 numbers, 40,000 bytes lent", p8, 9100, 40000);
-    tried(b"8,999 numbers lent", p8, 8999, 32768);
-    tried(b"32,767 bytes lent", p8, 9000, 32767);
+    lent(p8);
 }
 
-// Lines that are missing, lack their LF or have another key: 3.
-fn bad_lines() {
+// Lines that are missing or lack their LF: 3.
+fn missing_lines() {
     case(b"empty file", b"");
     case(b"no LF", b"units=1");
     case(b"groups missing", b"units=1\n");
@@ -153,6 +158,10 @@ fn bad_lines() {
         b"bytes after the last LF",
         b"units=1\ngroups=0\nparents=-\narrive=0",
     );
+}
+
+// Lines with another key: 3.
+fn other_keys() {
     case(b"doubled last LF", b"units=1\ngroups=0\nparents=-\n\n");
     case(b"space in a key", b"units =1\n");
     case(
@@ -172,10 +181,18 @@ fn bad_values() {
     case(b"leading zero", b"units=01\n");
     case(b"no value", b"units=\n");
     case(b"65,536", b"units=65536\n");
+}
+
+// Lists that are not written as told: 4.
+fn bad_lists() {
     case(b"empty entry", b"units=2\ngroups=1\ngroup=0,,1\n");
     case(b"comma at the end", b"units=2\ngroups=1\ngroup=0,1,\n");
     case(b"builds", b"units=1\ngroups=0\nparents=builds\n");
     case(b"build in a list", b"units=2\ngroups=0\nparents=-,build\n");
+}
+
+// Events that are not written as told: 4.
+fn bad_events() {
     case(
         b"source 65,535",
         b"units=1\ngroups=0\nparents=-\nsend=65535,0,0\n",
@@ -191,7 +208,7 @@ fn bad_values() {
     case(b"arrive=-1", b"units=1\ngroups=0\nparents=-\narrive=-1\n");
 }
 
-// Numbers outside their limits: 5 to 8; of several faults in a line the lowest number decides.
+// Numbers outside their limits: 5 and 6; of several faults in a line the lowest number decides.
 fn bad_numbers() {
     case(b"0 units", b"units=0\n");
     case(b"33 units", b"units=33\n");
@@ -205,6 +222,10 @@ fn bad_numbers() {
         b"parent outside, too long",
         b"units=2\ngroups=0\nparents=-,-,2\n",
     );
+}
+
+// Members that do not rise, and too few or too many parents: 7 and 8; the first bad line decides.
+fn bad_sequences() {
     case(b"not rising", b"units=2\ngroups=1\ngroup=1,0\n");
     case(b"a member twice", b"units=2\ngroups=1\ngroup=0,0\n");
     case(b"parents too short", b"units=2\ngroups=0\nparents=-\n");
@@ -247,56 +268,35 @@ fn events(name: &[u8], first: &[u8], many: usize, second: &[u8], few: usize, las
     start_case(name, &file, end);
 }
 
+// A file with so many arrivals of hop 0, and a last line.
+fn arrivals(name: &[u8], many: usize, last: &[u8]) {
+    events(name, b"arrive=0\n", many, b"", 0, last);
+}
+
+// A file with so many lines of 13 bytes and of 12, and a last one.
+fn long_file(name: &[u8], many: usize, few: usize, last: &[u8]) {
+    events(name, b"arrive=10000\n", many, b"arrive=1000\n", few, last);
+}
+
 // Many events, and long files.
 fn large() {
-    events(b"3,000 events", b"arrive=0\n", 3000, b"", 0, b"");
-    events(b"3,001 events", b"arrive=0\n", 3001, b"", 0, b"");
-    events(
-        b"3,001st event badly written",
-        b"arrive=0\n",
-        3000,
-        b"",
-        0,
-        b"arrive=00\n",
-    );
-    events(
-        b"3,001st event without LF",
-        b"arrive=0\n",
-        3000,
-        b"",
-        0,
-        b"arrive=0",
-    );
-    events(
-        b"32,768 bytes",
-        b"arrive=10000\n",
-        2509,
-        b"arrive=1000\n",
-        10,
-        b"",
-    );
-    events(
-        b"32,769 bytes",
-        b"arrive=10000\n",
-        2510,
-        b"arrive=1000\n",
-        9,
-        b"",
-    );
-    events(
-        b"32,769 bytes, the last no LF",
-        b"arrive=10000\n",
-        2509,
-        b"arrive=1000\n",
-        10,
-        b"x",
-    );
+    arrivals(b"3,000 events", 3000, b"");
+    arrivals(b"3,001 events", 3001, b"");
+    arrivals(b"3,001st event badly written", 3000, b"arrive=00\n");
+    arrivals(b"3,001st event without LF", 3000, b"arrive=0");
+    long_file(b"32,768 bytes", 2509, 10, b"");
+    long_file(b"32,769 bytes", 2510, 9, b"");
+    long_file(b"32,769 bytes, the last no LF", 2509, 10, b"x");
 }
 
 fn main() {
     good();
-    bad_lines();
+    missing_lines();
+    other_keys();
     bad_values();
+    bad_lists();
+    bad_events();
     bad_numbers();
+    bad_sequences();
     large();
 }

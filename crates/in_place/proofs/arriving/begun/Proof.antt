@@ -52,7 +52,7 @@ unfolding passageOf received benchIn countOf rowOf madeRow takenRow isOut
 returns c =
     let choose = c .before .before in let choose-a = choose .before in let choose-b = choose-a .before .before in let is-next = choose-b .before .before in
     let taken = is-next .before in let made = taken .before in let is-open = made .before .before .before in let refusal = is-open .before in let start = refusal .before in
-    rw (
+    simp (
       c .number-in .ensures,
       c .before .less .ensures,
       choose .choose3 .ensures,

@@ -51,7 +51,7 @@ returns : tie.Need-returns
 unfolding received isOut
 returns c =
     let next = c .before .before .before .before .before .before .before .before .before .before .before .before .before .before in
-    rw (
+    simp (
       c .row .ensures,
       c .before .before .length-of .ensures,
       c .before .before .before .before .less .ensures,

@@ -69,16 +69,17 @@ void scrollcairn_write(const uint32_t groups[24], const uint8_t parents[32], con
  *   2  repeat     3  held         6  rest: 1 for yes, 0 for no
  *
  * `hops` gets five numbers for each of the 2,008 records, as they are left: sender, receiver, sequence number, message, state (0 out, 1 held,
- * 2 taken). The last eight, which no call uses, held 9, 9, 9, 9, 9 before. `bench` gets the hops made, the hops taken, the messages sent, the sum
- * of their way sizes; the length of each unit's log (32); the sources, groups and words of the messages (200 each); for each ordered pair
- * of units, sender by receiver, the hops made (1,024), and the hops taken (1,024). `book` is the log book itself.
+ * 2 taken). The last eight, which no call uses, held 9, 9, 9, 9, 9 before. `bench`, the one list of 32-bit numbers, gets the hops made, the hops
+ * taken, the messages sent, the sum of their way sizes; the length of each unit's log (32); the sources, groups and words of the messages (200 each,
+ * 0 past the messages sent); for each ordered pair of units, sender by receiver, the hops made (1,024), and the hops taken (1,024). `book` is the
+ * log book itself.
  *
  * Answers how many calls were run, and how many numbers `replies` got. Refused, in this order: 1 with 1, where `hops`, `bench` or `replies` is
  * shorter than SCROLLCAIRN_HOP_NUMBERS, SCROLLCAIRN_BENCH_NUMBERS, or SCROLLCAIRN_REPLY_NUMBERS for each call; 5, 4, 6, 10, 11 as
  * scrollcairn_check; 1 with 0, where the fresh bench is lent too short a list. */
 void scrollcairn_calls(size_t units, const uint32_t groups[24], size_t count, const uint8_t parents[32], size_t fresh_hops, size_t fresh_book,
                        const uint16_t *calls, size_t calls_length, uint16_t *book, size_t book_length, uint16_t *hops, size_t hops_length,
-                       uint16_t *bench, size_t bench_length, uint16_t *replies, size_t replies_length, uint64_t answer[3]);
+                       uint32_t *bench, size_t bench_length, uint16_t *replies, size_t replies_length, uint64_t answer[3]);
 
 #ifdef __cplusplus
 }

@@ -12,15 +12,15 @@ use denote.Laws.{Is}
 use denote.RattleType.{RattleType}
 use denote.Struct.Laws as LL
 use Rattle.model.specs.Network.{noHop, hopAt, setState, isPair}
-use Rattle.tables.specs.Values.{filled}
+use Rattle.bench_store.specs.Values.{filled}
 use Rattle.hops.specs.declared.forwarding.Outgoing.{Outgoing}
 use Rattle.hops.specs.Access.{nextOfPair, withCounts, withoutCounts, isLeft, nextHop, afterNext, forwarded, forwardedHops}
 use Rattle.hops.proofs.forwarding.Outgoing as T
 use Rattle.hops.proofs.forwarding.Outgoing.Laws as T′
 use Rattle.hops.proofs.Records.{R, by-hop}
-use Rattle.walks.proofs.Values.{ByValue, by-uint, by-bool, by-unit, by-struct}
-use Rattle.walks.proofs.Calling.{Pass, value, lent, shown, relayed, Callee}
-use Rattle.walks.proofs.ByRule.{stating, by-rule, the-result, the-list, result-and-list, result-and-lists}
+use Rattle.hand_proofs.proofs.Values.{ByValue, by-uint, by-bool, by-unit, by-struct}
+use Rattle.hand_proofs.proofs.Calling.{Pass, value, lent, shown, relayed, Callee}
+use Rattle.hand_proofs.proofs.ByRule.{stating, by-rule, the-result, the-list, result-and-list, result-and-lists}
 
 -- ---- the struct `Outgoing` by value
 abbrev pub O : RattleType

@@ -30,7 +30,7 @@ use Rattle.model.specs.declared.Hop.{Hop}
 use Rattle.model.specs.Network.{noHop, hopAt, withState}
 use Rattle.model.proofs.Hop as T
 use Rattle.model.proofs.Hop.Laws as T′
-use Rattle.walks.proofs.Values.{ByValue, by-struct}
+use Rattle.hand_proofs.proofs.Values.{ByValue, by-struct}
 
 abbrev pub R : RattleType
 R = T.the-row

@@ -5,7 +5,7 @@ use mathlib.Core.List.{List}
 use lib.Dec.{eqb}
 use lib.ListN.{getD, set}
 use Rattle.sets.specs.Sets.{lowest, excluding}
-use Rattle.tables.specs.Values.{plus, added}
+use Rattle.bench_store.specs.Values.{plus, added}
 use Rattle.model.specs.declared.Hop.{Hop}
 use Rattle.model.specs.Network.{hopAt, isPair}
 use Rattle.hops.specs.declared.forwarding.Outgoing.{Outgoing}

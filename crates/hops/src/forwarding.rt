@@ -3,7 +3,7 @@ ghost use mathlib.Core.Path.{_≡_};
 ghost use mathlib.Core.List.{[]};
 ghost use lib.ListN.{getD};
 ghost use Rattle.sets.specs.Sets.{lowest};
-ghost use Rattle.tables.specs.Values.{plus as plusOf, added as addedOf};
+ghost use Rattle.bench_store.specs.Values.{plus as plusOf, added as addedOf};
 ghost use Rattle.hops.specs.Access.{withCounts, withoutCounts, isLeft, nextHop, afterNext};
 
 // The hops that one copy taken makes.
@@ -42,7 +42,7 @@ fn count_at(counts: &mut [u16], unit: usize) -> u16
     ensures { λ r. ⌜ (r ≡ plusOf (getD (now (counts .entry)) unit 0) 1) × (now (counts .exit) ≡ addedOf (now (counts .entry)) unit 1) ⌝ }
 {
     if unit < counts.len() {
-        let count = tables::plus(counts[unit], 1);
+        let count = bench_store::plus(counts[unit], 1);
         counts[unit] = count;
         return count;
     }
@@ -77,7 +77,7 @@ pub fn after(o: Outgoing) -> Outgoing
 {
     let child = next_child(o);
     let children = sets::excluding(o.children, child);
-    let made = tables::plus(o.made, 1);
+    let made = bench_store::plus(o.made, 1);
     Outgoing {
         sender: o.sender,
         message: o.message,

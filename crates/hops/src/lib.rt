@@ -8,7 +8,7 @@ ghost use mathlib.Core.Path.{_≡_};
 ghost use Prim.Native.Nat.{_-_};
 ghost use lib.ListN.{set};
 ghost use Rattle.model.specs.Network.{hopAt, setState, isPair, noHop as zeros};
-ghost use Rattle.tables.specs.Values.{filled};
+ghost use Rattle.bench_store.specs.Values.{filled};
 ghost use Rattle.hops.specs.Access.{nextOfPair, withCounts, forwarded, forwardedHops};
 
 // The record at a place.

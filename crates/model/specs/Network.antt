@@ -106,7 +106,7 @@ countHops test hs = sumOf (λ h. bit (test h)) hs
 unfoldable pub pairCount : ℕ → ℕ → List Hop → ℕ
 pairCount s r hs = countHops (isPair s r) hs
 
--- how many of them were taken; no rule asks for it, but the relay counts them too
+-- how many of them were taken; no rule asks for it, but the code counts them too
 unfoldable pub takenOf : ℕ → ℕ → Hop → Bool
 takenOf s r h = isPair s r h && isTaken h
 

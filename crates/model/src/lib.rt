@@ -1,4 +1,4 @@
-// The records that the rules of the bench (specs/) and the relay's code share.
+// The records that the rules of the bench (specs/) and the code of the bench share.
 
 // A hop: one copy of a message on the cable from a sender to a receiver. The state is 0 out, 1 held, 2 taken.
 pub struct Hop {

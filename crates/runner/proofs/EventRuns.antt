@@ -1,5 +1,5 @@
--- What a run of events comes to: its calls go on from a chain of calls, with their answers; each refused event has its line; the sum is that of
--- the answers. Assumes nothing.
+-- What a run of events comes to: its calls go on from a chain of calls, with their answers; each refused event has its line; the sum is
+-- that of the answers. Assumes nothing.
 use mathlib.Core.Path.{_≡_, refl, sym, ap, subst, _∙_}
 use mathlib.Core.Bool.{true, not}
 use mathlib.Core.List.{List, [], _∷_, _++_, append-nil, map}
@@ -25,28 +25,29 @@ use Rattle.model.proofs.Sound.{Forest}
 use Rattle.model.proofs.Planning.{planned-forest}
 use Rattle.model.proofs.Runs.{KeptRun, kept-run}
 use Rattle.model.proofs.Theorems.{limits}
-use Rattle.relay.specs.declared.Bench.{Bench}
-use Rattle.relay.specs.declared.Sent.{Sent}
-use Rattle.relay.specs.declared.Arrived.{Arrived}
-use Rattle.relay.specs.declared.replies.SendReply.{SendReply}
-use Rattle.relay.specs.declared.replies.SendReply.the-variants.{Sent as SentNumber, ListTooShort as SendTooShort, NoSuchUnit}
-use Rattle.relay.specs.declared.replies.SendReply.the-variants.{NoSuchGroup, TooManyMessages, RoutesTooLong}
-use Rattle.relay.specs.declared.replies.ArriveReply.{ArriveReply}
-use Rattle.relay.specs.declared.replies.ArriveReply.the-variants.{Taken as TakenNumber, Held as HeldHop, Repeat as RepeatedHop}
-use Rattle.relay.specs.declared.replies.ArriveReply.the-variants.{ListTooShort as ArriveTooShort, NotMade}
-use Rattle.relay.specs.Replies.{sendAnswer, arriveAnswer}
-use Rattle.relay.specs.Promises.{SendPromise, ArrivePromise}
-use Rattle.relay.specs.Chains.{Called, sends, arrives}
-use Rattle.relay.proofs.Padding.{plus-small}
-use Rattle.relay.proofs.Reached.{called-reached, reached-send, reached-arrive}
+use Rattle.bench_promises.specs.declared.replies.SendReply.{SendReply}
+use Rattle.bench_promises.specs.declared.replies.SendReply.the-variants.{Sent as SentNumber, ListTooShort as SendTooShort, NoSuchUnit}
+use Rattle.bench_promises.specs.declared.replies.SendReply.the-variants.{NoSuchGroup, TooManyMessages, RoutesTooLong}
+use Rattle.bench_promises.specs.declared.replies.ArriveReply.{ArriveReply}
+use Rattle.bench_promises.specs.declared.replies.ArriveReply.the-variants.{Taken as TakenNumber, Held as HeldHop, Repeat as RepeatedHop}
+use Rattle.bench_promises.specs.declared.replies.ArriveReply.the-variants.{ListTooShort as ArriveTooShort, NotMade}
+use Rattle.bench_promises.specs.Replies.{sendAnswer, arriveAnswer}
+use Rattle.bench_promises.specs.State.{Bench}
+use Rattle.bench_promises.specs.Promises.{SendPromise, ArrivePromise}
+use Rattle.bench_promises.specs.Chains.{Called, sends, arrives}
+use Rattle.bench_promises.proofs.Padding.{plus-small}
+use Rattle.bench_promises.proofs.Reached.{called-reached, reached-send, reached-arrive}
+use Rattle.bench_engine.specs.declared.Sent.{Sent}
+use Rattle.bench_engine.specs.declared.Arrived.{Arrived}
 use Rattle.lines.specs.Lines.{Event as FileEvent, Send as SendEvent, Arrive as ArriveEvent, eventNumbers}
 use Rattle.benchfile.specs.File.{ended}
 use Rattle.benchfile.specs.Calls.{numbersOf}
 use Rattle.benchfile.proofs.WrittenLines.{ended-append}
 use Rattle.runner.specs.Printed.{callFor, refusedAs, refusedEvents}
-use Rattle.runner.specs.Steps.{Stage, refusalOf, isGoing, eventAt, isSend, afterSend, afterArrive, EventRun, sent, arrived, refusalLines, advanced, Noted}
-use Rattle.runner.specs.Steps.{EventsRun, over, next}
+use Rattle.runner.specs.Steps.{refusalOf, isGoing, eventAt, isSend, afterSend, afterArrive, EventRun, sent, arrived, refusalLines}
+use Rattle.runner.specs.Steps.{advanced, Noted, EventsRun, over, next}
 use Rattle.runner.specs.declared.events.Event.{Event}
+use Rattle.runner.specs.declared.events.Progress.{Progress}
 
 -- ---- the numbers of an event in the list
 
@@ -63,14 +64,16 @@ record EventThere (list : List ℕ) (n : ℕ) (e : Event) (rest : List ℕ) : Ty
 three-there : (list : List ℕ) (n a b c : ℕ) (rest : List ℕ) → drop n list ≡ a ∷ b ∷ c ∷ rest
     → EventThere list n (record { first = a; second = b; third = c }) rest
 three-there list n a b c rest e =
-    let at : (i : ℕ) → getD list (n + i) 0 ≡ getD (a ∷ b ∷ c ∷ rest) i 0 = λ i. sym (getD-drop n list i 0) ∙ ap (λ (l : List ℕ). getD l i 0) e in
+    let at : (i : ℕ) → getD list (n + i) 0 ≡ getD (a ∷ b ∷ c ∷ rest) i 0 = λ i. sym (getD-drop n list i 0) ∙ ap
+    (λ (l : List ℕ). getD l i 0) e in
     let one : getD list n 0 ≡ a = ap (λ (i : ℕ). getD list i 0) (sym (add-zero n)) ∙ at 0 in record {
       event = λ i. record { first = one i; second = at 1 i; third = at 2 i };
       behind = sym (drop-drop 3 n list) ∙ ap (drop 3) e;
       inside = omega (arith, length-drop n list, ap length e);
     }
 
-event-there : (list : List ℕ) (n : ℕ) (e : FileEvent) (rest : List ℕ) → drop n list ≡ eventNumbers e ++ rest → EventThere list n (numbered e) rest
+event-there : (list : List ℕ) (n : ℕ) (e : FileEvent) (rest : List ℕ) → drop n list ≡ eventNumbers e ++ rest → EventThere list n
+    (numbered e) rest
 unfolding eventNumbers numbered
 event-there list n (SendEvent s g w) rest e = three-there list n (suc s) g w rest e
 event-there list n (ArriveEvent hop) rest e = three-there list n 0 hop 0 rest e
@@ -125,9 +128,9 @@ module _ {A : Type 0} (n : ℕ) (l : List A) (size : length l ≡ n) where
 -- ---- the records of a run
 
 -- the call c was made: it stands at the end of the chain, with its answer
-record Ran (P : Plan) (past : List Answered) (c : Call) (p q : Stage) (hops : List Hop) (book : List ℕ) : Type 0 where
+record Ran (P : Plan) (past : List Answered) (c : Call) (p q : Progress) (b : Bench) (hops : List Hop) (book : List ℕ) : Type 0 where
   answer : Answer
-  whole : Whole P (past ++ answered c answer ∷ []) (q .bench) hops book
+  whole : Whole P (past ++ answered c answer ∷ []) b hops book
   lines : (k : ℕ) → refusalLines k (q .refusal) ≡ refusedAs k answer
   sum : q .taken ≡ takenTotal (past ++ answered c answer ∷ [])
   at : q .at ≡ p .at
@@ -135,24 +138,24 @@ record Ran (P : Plan) (past : List Answered) (c : Call) (p q : Stage) (hops : Li
   line : q .line ≡ p .line
 
 -- on to the next event
-record WentOn (q r : Stage) : Type 0 where
-  bench : r .bench ≡ q .bench
+record WentOn (q r : Progress) : Type 0 where
   count : r .count ≡ q .count + 1
   line : r .line ≡ suc (q .line)
   taken : r .taken ≡ q .taken
 
 -- what a run of these events leaves: the calls go on from those before
-pub record EventsLeft (P : Plan) (past : List Answered) (es : List FileEvent) (p : Stage) (out : List ℕ)
-    (q : Stage) (hops : List Hop) (book left : List ℕ) : Type 0 where
+pub record EventsLeft (P : Plan) (past : List Answered) (es : List FileEvent) (p : Progress) (out : List ℕ)
+    (q : Progress) (b : Bench) (hops : List Hop) (book left : List ℕ) : Type 0 where
   pub new : List Answered
-  pub whole : Whole P (past ++ new) (q .bench) hops book
+  pub whole : Whole P (past ++ new) b hops book
   pub calls : map callOf new ≡ map callFor es
   pub prints : Written (ended (refusedEvents (p .line) new)) (p .at) out (q .at) left
   pub sum : q .taken ≡ takenTotal (past ++ new)
 
 -- ---- on a plan
 
-run-taken : (P : Plan) (forest : Forest P) (r : Run) → KeptRun P forest r → takenTotal (historyOf r) ≡ countHops isTaken (hopsOf (networkOf r))
+run-taken : (P : Plan) (forest : Forest P) (r : Run) → KeptRun P forest r → takenTotal (historyOf r) ≡ countHops isTaken
+    (hopsOf (networkOf r))
 unfolding KeptRun historyOf networkOf
 run-taken P forest (ran W past) kept = kept .takes
 
@@ -166,43 +169,44 @@ module _ (P : Plan) (planned : Planned P) where
       let counted = run-taken P forest (run P (R .calls)) (kept-run P forest (R .calls)) in
       omega (arith, ap takenTotal (R .history), counted, count-length isTaken (hopsOf (networkOf (run P (R .calls)))), L .hops, L .routes)
 
-  whole-send : {past : List Answered} {b : Bench} {hops left : List Hop} {book : List ℕ} {r : Sent} (s g w : ℕ)
-      → Whole P past b hops book → SendPromise b s g w hops r left
-      → Whole P (past ++ answered (Send s g w 2000) (sendAnswer (r .reply)) ∷ []) (r .bench) left book
-  whole-send {past} {b} {hops} {left} {book} {r} s g w W promise =
+  whole-send : {past : List Answered} {b b′ : Bench} {hops left : List Hop} {book : List ℕ} {r : SendReply} (s g w : ℕ)
+      → Whole P past b hops book → SendPromise b s g w hops r b′ left
+      → Whole P (past ++ answered (Send s g w 2000) (sendAnswer r) ∷ []) b′ left book
+  whole-send {past} {b} {b′} {hops} {left} {book} {r} s g w W promise =
       let size = W .hops-whole in
-      let lent = subst (λ (l : List Hop). SendPromise b s g w l r left) (sym (all-lent 2000 hops size)) promise in
+      let lent = subst (λ (l : List Hop). SendPromise b s g w l r b′ left) (sym (all-lent 2000 hops size)) promise in
       let N = reached-send P planned (called-reached P planned (W .chain)) s g w 2000 lent in
       let same = nothing-past 2000 hops size left in record {
-        chain = coe 0 1 (i. Called P (past ++ answered (Send s g w (lent-length 2000 hops size i)) (sendAnswer (r .reply)) ∷ [])
-            (r .bench) (same i) book) (sends (W .chain) s g w 2000 lent);
+        chain = coe 0 1 (i. Called P (past ++ answered (Send s g w (lent-length 2000 hops size i)) (sendAnswer r) ∷ [])
+            b′ (same i) book) (sends (W .chain) s g w 2000 lent);
         hops-whole = ap length (sym same) ∙ N .hops-length ∙ size;
         book-whole = W .book-whole;
       }
 
-  whole-arrive : {past : List Answered} {b : Bench} {hops left : List Hop} {book book-left : List ℕ} {r : Arrived} (hop : ℕ)
-      → Whole P past b hops book → ArrivePromise b hop hops book r left book-left
-      → Whole P (past ++ answered (Arrive hop 2000 6400) (arriveAnswer (r .reply)) ∷ []) (r .bench) left book-left
-  whole-arrive {past} {b} {hops} {left} {book} {book-left} {r} hop W promise =
+  whole-arrive : {past : List Answered} {b b′ : Bench} {hops left : List Hop} {book book-left : List ℕ} {r : ArriveReply} (hop : ℕ)
+      → Whole P past b hops book → ArrivePromise b hop hops book r b′ left book-left
+      → Whole P (past ++ answered (Arrive hop 2000 6400) (arriveAnswer r) ∷ []) b′ left book-left
+  whole-arrive {past} {b} {b′} {hops} {left} {book} {book-left} {r} hop W promise =
       let size = W .hops-whole in
       let size′ = W .book-whole in
-      let lent : ArrivePromise b hop (take 2000 hops) (take 6400 book) r left book-left =
-      coe 0 1 (i. ArrivePromise b hop (sym (all-lent 2000 hops size) i) (sym (all-lent 6400 book size′) i) r left book-left) promise in
+      let lent : ArrivePromise b hop (take 2000 hops) (take 6400 book) r b′ left book-left =
+      coe 0 1 (i. ArrivePromise b hop (sym (all-lent 2000 hops size) i) (sym (all-lent 6400 book size′) i) r b′ left book-left) promise in
       let N = reached-arrive P planned (called-reached P planned (W .chain)) hop 2000 6400 lent in
       let same = nothing-past 2000 hops size left in
       let same′ = nothing-past 6400 book size′ book-left in record {
         chain = coe 0 1 (i. Called P (past ++ answered (Arrive hop (lent-length 2000 hops size i) (lent-length 6400 book size′ i))
-            (arriveAnswer (r .reply)) ∷ []) (r .bench) (same i) (same′ i)) (arrives (W .chain) hop 2000 6400 lent);
+            (arriveAnswer r) ∷ []) b′ (same i) (same′ i)) (arrives (W .chain) hop 2000 6400 lent);
         hops-whole = ap length (sym same) ∙ N .hops-length ∙ size;
         book-whole = ap length (sym same′) ∙ N .book-length ∙ size′;
       }
 
   -- one event
-  module _ {past : List Answered} {p : Stage} {hops left : List Hop} {book : List ℕ} (W : Whole P past (p .bench) hops book)
+  module _ {past : List Answered} {p : Progress} {b b′ : Bench} {hops left : List Hop} {book : List ℕ} (W : Whole P past b hops book)
       (sum : p .taken ≡ takenTotal past) where
-    ran-send : {r : Sent} (s g w : ℕ) → SendPromise (p .bench) s g w hops r left → Ran P past (Send s g w 2000) p (afterSend p r) left book
+    ran-send : (r : Sent) (s g w : ℕ) → SendPromise b s g w hops (r .reply) b′ left → Ran P past (Send s g w 2000) p (afterSend p r) b′
+        left book
     unfolding afterSend takenTotal carriedBy
-    ran-send {r} s g w promise = record {
+    ran-send r s g w promise = record {
       answer = sendAnswer (r .reply);
       whole = whole-send s g w W promise;
       lines = λ k. send-lines k (r .reply);
@@ -212,10 +216,10 @@ module _ (P : Plan) (planned : Planned P) where
       line = refl;
     }
 
-    ran-arrive : {r : Arrived} {book-left : List ℕ} (hop : ℕ) → ArrivePromise (p .bench) hop hops book r left book-left
-        → Ran P past (Arrive hop 2000 6400) p (afterArrive p r) left book-left
+    ran-arrive : (r : Arrived) {book-left : List ℕ} (hop : ℕ) → ArrivePromise b hop hops book (r .reply) b′ left book-left
+        → Ran P past (Arrive hop 2000 6400) p (afterArrive p r) b′ left book-left
     unfolding afterArrive takenTotal carriedBy
-    ran-arrive {r} hop promise =
+    ran-arrive r hop promise =
         let a = arriveAnswer (r .reply) in
         let next-whole = whole-arrive hop W promise in
         let total = sum-snoc carriedBy past (answered (Arrive hop 2000 6400) a) in
@@ -229,70 +233,77 @@ module _ (P : Plan) (planned : Planned P) where
           line = refl;
         }
 
-  ran-event : {past : List Answered} {p q : Stage} {x : Event} {hops hops₁ : List Hop} {book book₁ : List ℕ} (e : FileEvent) → x ≡ numbered e
-      → EventRun p x hops book q hops₁ book₁ → Whole P past (p .bench) hops book → p .taken ≡ takenTotal past
-      → Ran P past (callFor e) p q hops₁ book₁
+  ran-event : {past : List Answered} {p q : Progress} {b b₁ : Bench} {x : Event} {hops hops₁ : List Hop} {book book₁ : List ℕ}
+      (e : FileEvent)
+      → x ≡ numbered e → EventRun p b x hops book q b₁ hops₁ book₁ → Whole P past b hops book → p .taken ≡ takenTotal past
+      → Ran P past (callFor e) p q b₁ hops₁ book₁
   unfolding numbered isSend callFor
-  ran-event {p = p} {hops = hops} {hops₁ = hops₁} (SendEvent s g w) same (sent {r = r} t promise) W sum =
+  ran-event {b = b} {b₁ = b₁} {hops = hops} {hops₁ = hops₁} (SendEvent s g w) same (sent r t promise) W sum =
       let less : suc s - 1 ≡ s = omega arith in
-      ran-send W sum s g w
-      (coe 0 1 (i. SendPromise (p .bench) ((ap (λ (x : Event). x .first - 1) same ∙ less) i) (same i .second) (same i .third) hops r hops₁) promise)
-  ran-event (SendEvent s g w) same (arrived t promise) W sum =
+      ran-send W sum r s g w
+      (coe 0 1 (i. SendPromise b ((ap (λ (x : Event). x .first - 1) same ∙ less) i) (same i .second) (same i .third) hops (r .reply) b₁
+      hops₁) promise)
+  ran-event (SendEvent s g w) same (arrived r t promise) W sum =
       absurd (clash (ap isSend same ∙ ap not (ne-eqb (suc s) 0 (suc-ne-zero s))) t)
-  ran-event (ArriveEvent hop) same (sent t promise) W sum = absurd (clash t (ap isSend same))
-  ran-event {p = p} {hops = hops} {hops₁ = hops₁} {book = book} {book₁ = book₁} (ArriveEvent hop) same (arrived {r = r} t promise) W sum =
-      ran-arrive W sum hop (subst (λ (x : Event). ArrivePromise (p .bench) (x .second) hops book r hops₁ book₁) same promise)
+  ran-event (ArriveEvent hop) same (sent r t promise) W sum = absurd (clash t (ap isSend same))
+  ran-event {b = b} {b₁ = b₁} {hops = hops} {hops₁ = hops₁} {book = book} {book₁ = book₁} (ArriveEvent hop) same (arrived r t promise) W
+      sum =
+      ran-arrive W sum r hop (subst (λ (x : Event). ArrivePromise b (x .second) hops book (r .reply) b₁ hops₁ book₁) same promise)
 
 -- ---- from one event to the next
 
-went-on : {q r : Stage} {out left : List ℕ} → Noted q out r left → q .count < 65535 → q .line < 65535 → WentOn q r
+went-on : {q r : Progress} {out left : List ℕ} → Noted q out r left → q .count < 65535 → q .line < 65535 → WentOn q r
 unfolding advanced
 went-on {q} N few few′ = let e = N .goes-on in record {
-  bench = ap (λ (x : Stage). x .bench) e;
-  count = ap (λ (x : Stage). x .count) e ∙ plus-small (q .count) 1 (omega (arith, few));
-  line = ap (λ (x : Stage). x .line) e ∙ plus-small (q .line) 1 (omega (arith, few′)) ∙ add-one (q .line);
-  taken = ap (λ (x : Stage). x .taken) e;
+  count = ap (λ (x : Progress). x .count) e ∙ plus-small (q .count) 1 (omega (arith, few));
+  line = ap (λ (x : Progress). x .line) e ∙ plus-small (q .line) 1 (omega (arith, few′)) ∙ add-one (q .line);
+  taken = ap (λ (x : Progress). x .taken) e;
 }
 
-still-going : (p : Stage) (list : List ℕ) → p .count < 3000 → 3 * p .count < length list → isGoing (p .count) list ≡ true
+still-going : (p : Progress) (list : List ℕ) → p .count < 3000 → 3 * p .count < length list → isGoing (p .count) list ≡ true
 unfolding isGoing
 still-going p list few inside = and-both (ltb (p .count) 3000) _ (lt-ltb (p .count) 3000 few) (lt-ltb (3 * p .count) (length list) inside)
 
-going-inside : (p : Stage) (list : List ℕ) → isGoing (p .count) list ≡ true → 3 * p .count < length list
+going-inside : (p : Progress) (list : List ℕ) → isGoing (p .count) list ≡ true → 3 * p .count < length list
 unfolding isGoing
 going-inside p list t = ltb-true (3 * p .count) (length list) (and-right (ltb (p .count) 3000) _ t)
 
 -- one event, and then the others
-joined-events : {P : Plan} {past : List Answered} {e : FileEvent} {es : List FileEvent} {p q r s : Stage} {hops₁ hops₂ : List Hop}
-    {book₁ book₂ out out₁ out₂ : List ℕ} (one : Ran P past (callFor e) p q hops₁ book₁) → Noted q out r out₁ → WentOn q r
-    → EventsLeft P (past ++ answered (callFor e) (one .answer) ∷ []) es r out₁ s hops₂ book₂ out₂ → EventsLeft P past (e ∷ es) p out s hops₂ book₂ out₂
+joined-events : {P : Plan} {past : List Answered} {e : FileEvent} {es : List FileEvent} {p q r s : Progress} {b₁ b₂ : Bench}
+    {hops₁ hops₂ : List Hop}
+    {book₁ book₂ out out₁ out₂ : List ℕ} (one : Ran P past (callFor e) p q b₁ hops₁ book₁) → Noted q out r out₁ → WentOn q r
+    → EventsLeft P (past ++ answered (callFor e) (one .answer) ∷ []) es r out₁ s b₂ hops₂ book₂ out₂ → EventsLeft P past (e ∷ es) p out s
+    b₂ hops₂ book₂ out₂
 unfolding refusedEvents callOf
-joined-events {P} {past} {e} {p = p} {q} {r} {s} {hops₂ = hops₂} {book₂ = book₂} {out = out} {out₁} {out₂} one N on rest =
+joined-events {P} {past} {e} {p = p} {q} {r} {s} {b₂ = b₂} {hops₂ = hops₂} {book₂ = book₂} {out = out} {out₁} {out₂} one N on rest =
     let a = one .answer in
     let x = answered (callFor e) a in
     let same = append-snoc past x (rest .new) in
-    let lines : refusalLines (q .line) (q .refusal) ≡ refusedAs (p .line) a = one .lines (q .line) ∙ ap (λ (k : ℕ). refusedAs k a) (one .line) in record {
+    let lines : refusalLines (q .line) (q .refusal) ≡ refusedAs (p .line) a = one .lines (q .line) ∙ ap (λ (k : ℕ). refusedAs k a)
+    (one .line) in record {
       new = x ∷ rest .new;
-      whole = subst (λ (l : List Answered). Whole P l (s .bench) hops₂ book₂) same (rest .whole);
+      whole = subst (λ (l : List Answered). Whole P l b₂ hops₂ book₂) same (rest .whole);
       calls = λ i. callFor e ∷ rest .calls i;
       prints = subst (λ (t : List ℕ). Written t (p .at) out (s .at) out₂)
           (sym (ended-append (refusedAs (p .line) a) (refusedEvents (suc (p .line)) (rest .new))))
           (written-append (coe 0 1 (i. Written (ended (lines i)) (one .at i) out (r .at) out₁) (N .prints))
-          (subst (λ (k : ℕ). Written (ended (refusedEvents k (rest .new))) (r .at) out₁ (s .at) out₂) (on .line ∙ ap suc (one .line)) (rest .prints)));
+          (subst (λ (k : ℕ). Written (ended (refusedEvents k (rest .new))) (r .at) out₁ (s .at) out₂) (on .line ∙ ap suc (one .line))
+          (rest .prints)));
       sum = rest .sum ∙ ap takenTotal same;
     }
 
 -- ---- all events
 
 module _ (P : Plan) (planned : Planned P) where
-  pub events-run : (past : List Answered) (es : List FileEvent) {list : List ℕ} {p q : Stage} {hops hops′ : List Hop} {book book′ out out′ : List ℕ}
-      → EventsRun list p hops book out q hops′ book′ out′ → Whole P past (p .bench) hops book → drop (3 * p .count) list ≡ numbersOf es
+  pub events-run : (past : List Answered) (es : List FileEvent) {list : List ℕ} {p q : Progress} {b b′ : Bench} {hops hops′ : List Hop}
+      {book book′ out out′ : List ℕ}
+      → EventsRun list p b hops book out q b′ hops′ book′ out′ → Whole P past b hops book → drop (3 * p .count) list ≡ numbersOf es
       → p .count + length es ≤ 3000 → p .line + length es ≤ 65535 → p .taken ≡ takenTotal past
-      → EventsLeft P past es p out q hops′ book′ out′
+      → EventsLeft P past es p out q b′ hops′ book′ out′
   unfolding numbersOf refusedEvents ended callOf eventAt
-  events-run past [] {q = q} {hops′ = hops′} {book′ = book′} {out = out} (over stop) W numbers few lines sum = record {
+  events-run past [] {q = q} {b′ = b′} {hops′ = hops′} {book′ = book′} {out = out} (over stop) W numbers few lines sum = record {
     new = [];
-    whole = subst (λ (l : List Answered). Whole P l (q .bench) hops′ book′) (sym (append-nil past)) W;
+    whole = subst (λ (l : List Answered). Whole P l b′ hops′ book′) (sym (append-nil past)) W;
     calls = refl;
     prints = written-none (q .at) out;
     sum = sum ∙ ap takenTotal (sym (append-nil past));
@@ -301,12 +312,12 @@ module _ (P : Plan) (planned : Planned P) where
       absurd (clash (still-going p list (omega arith) (event-there list (3 * p .count) e (numbersOf es) numbers .inside)) stop)
   events-run past [] {list} {p = p} (next goes E N R) W numbers few lines sum =
       absurd (omega (arith, going-inside p list goes, length-drop (3 * p .count) list, ap length numbers))
-  events-run past (e ∷ es) {list} {p = p} (next {r = r} {hops₁ = hops₁} {book₁ = book₁} goes E N R) W numbers few lines sum =
+  events-run past (e ∷ es) {list} {p = p} (next {r = r} goes E N R) W numbers few lines sum =
       let there = event-there list (3 * p .count) e (numbersOf es) numbers in
       let one = ran-event P planned e (there .event) E W sum in
       let on = went-on N (omega (arith, one .count, few)) (omega (arith, one .line, lines)) in
       let place : 3 * r .count ≡ 3 * p .count + 3 = omega (arith, on .count, one .count) in
       joined-events one N on (events-run (past ++ answered (callFor e) (one .answer) ∷ []) es R
-      (subst (λ (b : Bench). Whole P (past ++ answered (callFor e) (one .answer) ∷ []) b hops₁ book₁) (sym (on .bench)) (one .whole))
+      (one .whole)
       (ap (λ (n : ℕ). drop n list) place ∙ there .behind)
       (omega (arith, on .count, one .count, few)) (omega (arith, on .line, one .line, lines)) (on .taken ∙ one .sum))

@@ -20,9 +20,10 @@ use Rattle.benchfile.specs.File.{File, Outcome, Refused as RefusedFile, Good, r
 use Rattle.benchfile.specs.Calls.{contentOf}
 use Rattle.benchfile.proofs.RoundTrip.{read-good}
 use Rattle.benchfile.proofs.WrittenLines.{ended-append}
-use Rattle.output_lines.specs.Output.{refusedKey, logKey, hopsKey, restKey, answerWord, refusedLine, messageTexts, logLine, hopsLine, restLine}
-use Rattle.runner.specs.Printed.{forestRefusal, planOf, callFor, ranOn, onForest, resultOf, result}
-use Rattle.runner.specs.Printed.{refusedAs, refusedEvents, logLines, runLines, resultLines, printed}
+use Rattle.output_lines.specs.Output.{refusedKey, logKey, hopsKey, restKey, answerWord, refusedLine, messageTexts, logLine, hopsLine}
+use Rattle.output_lines.specs.Output.{restLine}
+use Rattle.runner.specs.Printed.{forestRefusal, planOf, callFor, ranOn, onForest, resultOf, result, refusedAs, refusedEvents}
+use Rattle.runner.specs.Printed.{logLines, runLines, resultLines, printed}
 use Rattle.runner.proofs.Plans.{plan-planned}
 use Rattle.runner.proofs.RunResults.{result-lines}
 
@@ -131,7 +132,8 @@ module _ (file : List ℕ) where
       let planned = plan-planned (contentOf F) accepted in
       let good = read-good 9000 file F e in
       let few : length (historyOf r) ≤ 3000 =
-      omega (arith, length-map (historyOf r) callOf, ap length (reading P planned cs .calls), length-map (F .events) callFor, good .total) in
+      omega (arith, length-map (historyOf r) callOf, ap length (reading P planned cs .calls), length-map (F .events) callFor, good .total)
+      in
       rw (result-lines (4 + length (F .groups)) P r) (lines-fit _ _ _ _ _ _ few (good .most) (limits P planned cs .log))
 
   forest-fits : (F : File) → readFile 9000 file ≡ Good F → (refusal : List ℕ) → forestRefusal (contentOf F) ≡ refusal

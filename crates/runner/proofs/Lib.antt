@@ -8,4 +8,3 @@ pub mod Runs
 pub mod Outcomes
 pub mod LogTexts
 pub mod Known
-pub mod Stages

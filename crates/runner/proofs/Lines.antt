@@ -11,9 +11,10 @@ use lib.Dec.{ltb, eqb}
 use borrow.Author.Tests.{ltb-false}
 use Rattle.sets.proofs.Bools.{either}
 use Rattle.text.specs.Text.{split, inFront}
-use Rattle.lines.specs.Lines.{refuse, unitsKey, groupsKey, countIn, unitsFault, groupsFault, groupFault, groupIn, parentsFault, parentsIn, eventFault, eventIn}
-use Rattle.benchfile.specs.File.{State, UnitsDue, GroupsDue, GroupDue, EventDue, Stopped, next, step}
-use Rattle.benchfile.specs.File.{Outcome, Refused, Good, finish, steps, readFile}
+use Rattle.lines.specs.Lines.{refuse, unitsKey, groupsKey, countIn, unitsFault, groupsFault, groupFault, groupIn, parentsFault, parentsIn}
+use Rattle.lines.specs.Lines.{eventFault, eventIn}
+use Rattle.benchfile.specs.File.{State, UnitsDue, GroupsDue, GroupDue, EventDue, Stopped, next, step, Outcome, Refused, Good, finish, steps}
+use Rattle.benchfile.specs.File.{readFile}
 
 -- ---- the pieces of a text are at most one more than its bytes
 

@@ -15,7 +15,8 @@ use Rattle.model.specs.declared.Hop.{Hop}
 use Rattle.model.specs.Network.{noHop}
 use Rattle.text.proofs.Written.{written-fits}
 use Rattle.benchfile.specs.File.{File, Outcome, Refused, Good, readFile, ended}
-use Rattle.benchfile.specs.Calls.{Answer, TurnedAway, ReadNumbers, WroteBytes, readAnswer, contentOf, numbersOf, readSays, readContent, readLeaves, ReadPromise, writeSays, writeLeaves}
+use Rattle.benchfile.specs.Calls.{Answer, TurnedAway, ReadNumbers, WroteBytes, readAnswer, contentOf, numbersOf, readSays, readContent}
+use Rattle.benchfile.specs.Calls.{readLeaves, ReadPromise, writeSays, writeLeaves}
 use Rattle.benchfile.specs.declared.Content.{Content}
 use Rattle.benchfile.specs.declared.ReadAnswer.{ReadAnswer}
 use Rattle.benchfile.proofs.RoundTrip.{read-good}
@@ -24,8 +25,8 @@ use Rattle.output_lines.specs.Output.{refusedLine}
 use Rattle.runner.specs.declared.RunAnswer.{RunAnswer}
 use Rattle.runner.specs.declared.RunReply.the-variants.{ListTooShort}
 use Rattle.runner.specs.declared.results.Totals.{Totals}
-use Rattle.runner.specs.Printed.{Result, RefusedAt, forestRefusal, forestParents, ranOn, onForest, resultOf, result, resultLines, printed, takenBy}
-use Rattle.runner.specs.Printed.{runAnswer, outputShort, RunPromise}
+use Rattle.runner.specs.Printed.{Result, RefusedAt, forestRefusal, forestParents, ranOn, onForest, resultOf, result, resultLines}
+use Rattle.runner.specs.Printed.{printed, takenBy, runAnswer, outputShort, RunPromise}
 use Rattle.runner.specs.Steps.{numberOf, lineOf, countOf, BenchRun, PrintedAs, ContentRun}
 use Rattle.runner.proofs.Lines.{refusal-line}
 use Rattle.runner.proofs.Lengths.{printed-fits}
@@ -48,22 +49,23 @@ no-number OwnAncestor e = absurd (suc-ne-zero _ e)
 no-number (NoPrimary g) e = absurd (suc-ne-zero _ e)
 
 -- n is the number of the forest's verdict
-module _ {c : Content} {line n : ℕ} {list out left : List ℕ} {r : RunAnswer} (v : Verdict) (same : refusal v ≡ forestRefusal c) (is : n ≡ numberIn (refusal v)) where
+module _ {c : Content} {line n : ℕ} {list out left : List ℕ} {r : RunAnswer} (v : Verdict) (same : refusal v ≡ forestRefusal c)
+    (is : n ≡ numberIn (refusal v)) where
   pub content-refused : (n ≡ 0 → ⊥) → PrintedAs (refusedLine line n ++ 10 ∷ []) 0 out r left → ContentRun c line list out r left
   content-refused some P = record {
     refused = λ number values e. subst (λ (k : ℕ). PrintedAs (refusedLine line k ++ 10 ∷ []) 0 out r left) (is ∙ ap numberIn (same ∙ e)) P;
     ran = λ e es _ few. absurd (some (is ∙ ap numberIn (same ∙ e)));
   }
 
-  pub content-ran : {book book′ messages′ : List ℕ} {rows′ : List (List ℕ)} {hops : List Hop} {t : Totals} (ps : List ℕ) → n ≡ 0 → ps ≡ forestParents c
+  pub content-ran : {book book′ : List ℕ} {hops : List Hop} {t : Totals} (ps : List ℕ) → n ≡ 0 → ps ≡ forestParents c
       → length (c .groups) ≡ 24 → length book ≡ 6400
-      → BenchRun (c .units) (c .count) (c .groups) ps list (replicate 600 0) (replicate 65 (replicate 32 0)) (replicate 2000 noHop) book out t messages′ rows′ hops book′ left
+      → BenchRun (c .units) (c .count) (c .groups) ps list (replicate 2000 noHop) book out t hops book′ left
       → (runAnswer (r .reply) ≡ WroteBytes (t .bytes)) × (r .taken ≡ t .taken) → ContentRun c line list out r left
-  content-ran {book} {book′} {messages′} {rows′} {hops} {t} ps none parents places size B said = record {
+  content-ran {book} {book′} {hops} {t} ps none parents places size B said = record {
     refused = λ number values e. absurd (suc-ne-zero (length values) (ap length (sym e ∙ sym same ∙ no-number v (sym is ∙ none))));
     ran = λ e es listed few.
-        let B′ = subst (λ (qs : List ℕ). BenchRun (c .units) (c .count) (c .groups) qs list (replicate 600 0) (replicate 65 (replicate 32 0)) (replicate 2000 noHop) book out t
-        messages′ rows′ hops book′ left) parents B in
+        let B′ = subst (λ (qs : List ℕ). BenchRun (c .units) (c .count) (c .groups) qs list (replicate 2000 noHop) book out t hops book′
+        left) parents B in
         let S = bench-run c es e places listed few (length-replicate 2000 noHop) size B′ in
         record { place = t .bytes; says = said .0; prints = S .0; sum = said .1 ∙ S .1 };
   }
@@ -79,7 +81,8 @@ run-short file out short = record {
 }
 
 -- the text of the file's lines was printed to a list that is long enough
-run-printed : (file out left : List ℕ) (r : RunAnswer) → 98740 ≤ length out → PrintedAs (printed file) (takenBy (result file)) out r left → RunPromise file out r left
+run-printed : (file out left : List ℕ) (r : RunAnswer) → 98740 ≤ length out → PrintedAs (printed file) (takenBy (result file)) out r left →
+    RunPromise file out r left
 unfolding outputShort writeSays writeLeaves
 run-printed file out left r long P =
     let W = written-fits (P .prints) (omega (arith, long, printed-fits file)) in
@@ -90,7 +93,8 @@ run-printed file out left r long P =
     }
 
 -- what a file comes to, and what is printed of it
-from-result : (file text out left : List ℕ) (n : ℕ) (r : RunAnswer) → 98740 ≤ length out → text ≡ printed file → n ≡ takenBy (result file) → PrintedAs text n out r left
+from-result : (file text out left : List ℕ) (n : ℕ) (r : RunAnswer) → 98740 ≤ length out → text ≡ printed file → n ≡ takenBy (result file)
+    → PrintedAs text n out r left
     → RunPromise file out r left
 from-result file text out left n r long e q P =
     run-printed file out left r long (subst (λ (x : List ℕ × ℕ). PrintedAs (x .0) (x .1) out r left) (λ i. (e i, q i)) P)
@@ -119,7 +123,8 @@ module _ (file list events : List ℕ) (a : ReadAnswer) (size : length list ≡ 
   unfolding readSays
   says-refused refusal e = says ∙ ap readSays e
 
-  says-good : (F : File) → readFile 9000 file ≡ Good F → readAnswer (a .reply) ≡ ReadNumbers (3 * length (F .events)) (3 + length (F .groups))
+  says-good : (F : File) → readFile 9000 file ≡ Good F → readAnswer (a .reply) ≡ ReadNumbers (3 * length (F .events))
+      (3 + length (F .groups))
   unfolding readSays
   says-good F e = says ∙ ap readSays e
 
@@ -128,7 +133,8 @@ module _ (file list events : List ℕ) (a : ReadAnswer) (size : length list ≡ 
   unfolding countOf
   count-fits = ⊎-elim
       (λ (x : (refusal : List ℕ) × (readFile 9000 file ≡ Refused refusal)). rw (says-refused (x .0) (x .1)) (omega arith))
-      (λ (x : (F : File) × (readFile 9000 file ≡ Good F)). rw (says-good (x .0) (x .1)) (omega (arith, read-good 9000 file (x .0) (x .1) .total)))
+      (λ (x : (F : File) × (readFile 9000 file ≡ Good F)). rw (says-good (x .0) (x .1))
+      (omega (arith, read-good 9000 file (x .0) (x .1) .total)))
       (outcome-cases (readFile 9000 file))
 
   events-length : length events ≡ 9000
@@ -159,7 +165,8 @@ module _ (file list events : List ℕ) (a : ReadAnswer) (size : length list ≡ 
         let small : line % 65536 ≡ line = omega (arith, L .4) in
         let text : refusedLine l n ++ 10 ∷ [] ≡ refusedLine line number ++ 10 ∷ [] =
         λ i. refusedLine ((l-is ∙ ap (λ (x : Answer). lineOf x % 65536) q ∙ small) i) ((n-is ∙ ap numberOf q) i) ++ 10 ∷ [] in
-        from-result file _ out left 0 r long (text ∙ sym (ap (λ (o : Outcome). ended (resultLines (resultOf o))) e)) (sym (ap (λ (o : Outcome). takenBy (resultOf o)) e)) P)
+        from-result file _ out left 0 r long (text ∙ sym (ap (λ (o : Outcome). ended (resultLines (resultOf o))) e))
+        (sym (ap (λ (o : Outcome). takenBy (resultOf o)) e)) P)
         (λ (x : (F : File) × (readFile 9000 file ≡ Good F)). absurd (some (n-is ∙ ap numberOf (says-good (x .0) (x .1)))))
         (outcome-cases (readFile 9000 file))
 
@@ -188,7 +195,8 @@ module _ (file list events : List ℕ) (a : ReadAnswer) (size : length list ≡ 
           (C .ran e (F .events) refl (read-good 9000 file F good .total)))
           (λ (x : (number : ℕ) × (values : List ℕ) × (forestRefusal (contentOf F) ≡ number ∷ values)).
           let q : result file ≡ RefusedAt (3 + length (F .groups)) (x .0) = ap resultOf good ∙ ap (λ (l : List ℕ). onForest l F) (x .2) in
-          from-result file _ out left _ r long (sym (ap (λ (y : Result). ended (resultLines y)) q)) (sym (ap takenBy q)) (C .refused (x .0) (x .1) (x .2)))
+          from-result file _ out left _ r long (sym (ap (λ (y : Result). ended (resultLines y)) q)) (sym (ap takenBy q))
+          (C .refused (x .0) (x .1) (x .2)))
           (list-cases (forestRefusal (contentOf F)))
 
     pub run-read : n ≡ 0 → ContentRun (a .content) l (take (countOf (readAnswer (a .reply))) events) out r left → RunPromise file out r left

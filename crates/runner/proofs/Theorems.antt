@@ -1,5 +1,5 @@
--- What the promise of `run` says of what is printed: demand 3 of a file that is run, the line of one that is refused, and how many bytes at most.
--- Assumes nothing.
+-- What the promise of `run` says of what is printed: demand 3 of a file that is run, the line of one that is refused, and how many bytes at
+-- most. Assumes nothing.
 use mathlib.Core.Path.{_≡_, refl, sym, ap, _∙_}
 use mathlib.Core.Logic.{⊎-elim}
 use mathlib.Core.Bool.{Bool, true, false, cond}
@@ -18,8 +18,8 @@ use Rattle.benchfile.specs.File.{File, Good, readFile, ended}
 use Rattle.benchfile.specs.Calls.{WroteBytes, contentOf, writeSays, writeLeaves}
 use Rattle.output_lines.specs.Output.{refusedLine}
 use Rattle.runner.specs.declared.RunAnswer.{RunAnswer}
-use Rattle.runner.specs.Printed.{forestRefusal, planOf, callFor, Result, RefusedAt, RanFrom, ranOn, onForest, resultOf, result, resultLines, printed, takenBy}
-use Rattle.runner.specs.Printed.{runAnswer, outputShort, RunPromise}
+use Rattle.runner.specs.Printed.{forestRefusal, planOf, callFor, Result, RefusedAt, RanFrom, ranOn, onForest, resultOf, result}
+use Rattle.runner.specs.Printed.{resultLines, printed, takenBy, runAnswer, outputShort, RunPromise}
 use Rattle.runner.specs.Claims.{PrintedRun}
 use Rattle.runner.proofs.Plans.{plan-planned}
 use Rattle.runner.proofs.RunResults.{result-lines, result-taken}
@@ -33,7 +33,8 @@ module _ (file out : List ℕ) (r : RunAnswer) (left : List ℕ) (p : RunPromise
   leaves-text : outputShort out ≡ false → take (length (printed file)) left ≡ printed file
   unfolding writeLeaves
   leaves-text h =
-      ap (take (length (printed file))) (p .leaves ∙ ap (λ (b : Bool). writeLeaves b (printed file) out) h) ∙ take-append-seam (printed file) _
+      ap (take (length (printed file))) (p .leaves ∙ ap (λ (b : Bool). writeLeaves b (printed file) out) h) ∙ take-append-seam
+      (printed file) _
 
   -- the bytes printed and the sum, whatever the file comes to
   prints : 98740 ≤ length out → (o : Result) → result file ≡ o

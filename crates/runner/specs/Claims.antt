@@ -11,8 +11,8 @@ use Rattle.benchfile.specs.File.{File, ended}
 use Rattle.benchfile.specs.Calls.{contentOf}
 use Rattle.runner.specs.Printed.{planOf, callFor, runLines}
 
--- the bytes printed for a file, and the sum answered beside them: they are the lines of logs, hops and a rest, and demand 3 holds of these logs, this
--- rest and the file's events with their answers
+-- the bytes printed for a file, and the sum answered beside them: they are the lines of logs, hops and a rest, and demand 3 holds of these
+-- logs, this rest and the file's events with their answers
 pub record PrintedRun (F : File) (bytes : List ℕ) (sum : ℕ) : Type 0 where
   pub past : List Answered
   pub logs : ℕ → List ℕ

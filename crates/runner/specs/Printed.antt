@@ -24,10 +24,12 @@ use Rattle.runner.specs.declared.RunAnswer.{RunAnswer}
 -- ---- the forest of a file: built, or checked as it is drawn
 
 unfoldable pub forestRefusal : Content → List ℕ
-forestRefusal c = cond (c .build) (buildRefusal (c .units) (c .count) (c .groups)) (checkRefusal (c .units) (c .count) (c .groups) (c .parents))
+forestRefusal c = cond (c .build) (buildRefusal (c .units) (c .count) (c .groups))
+    (checkRefusal (c .units) (c .count) (c .groups) (c .parents))
 
 unfoldable pub forestParents : Content → List ℕ
-forestParents c = cond (c .build) (buildParents (c .units) (c .count) (c .groups)) (checkParents (c .units) (c .count) (c .groups) (c .parents))
+forestParents c = cond (c .build) (buildParents (c .units) (c .count) (c .groups))
+    (checkParents (c .units) (c .count) (c .groups) (c .parents))
 
 unfoldable pub planOf : Content → Plan
 planOf c = record { units = c .units; count = c .count; groups = c .groups; parents = forestParents c }

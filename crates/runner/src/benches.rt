@@ -2,8 +2,9 @@
 use crate::events;
 use crate::results;
 use crate::results::Totals;
-use relay::Bench;
-use relay::Fresh;
+use bench::Bench;
+use bench::Fresh;
+use bench_store::Limits;
 ghost use mathlib.Core.Path.{_≡_};
 ghost use mathlib.Core.List.{List};
 ghost use lib.ListN.{replicate};
@@ -11,54 +12,61 @@ ghost use Rattle.model.specs.declared.Hop.{Hop};
 ghost use Rattle.model.specs.Network.{noHop};
 ghost use Rattle.runner.specs.Steps.{BenchRun};
 
-// The topology of a fresh bench.
-fn topology_of(fresh: Fresh) -> routing::Topology
-    ensures { λ r. ⌜ r ≡ fresh .bench .topology ⌝ }
+// The bench of an answer.
+fn bench_of(fresh: Fresh) -> Bench
+    ensures { λ r. ⌜ r ≡ fresh .bench ⌝ }
 {
-    let bench = fresh.bench;
-    bench.topology
+    fresh.bench
 }
 
-// Runs the events of a list on a fresh bench, and prints. The bench's messages and rows are lent, its tables are made here (crate `in_place`).
+// Runs the events of a list on a fresh bench, and prints. The bench is taken apart, and its lists are lent to the calls of `bench_engine`.
 fn run_hops(
     units: usize,
-    groups: [u32; 24],
+    groups: [u32; Limits::GROUPS],
     count: usize,
-    parents: [u8; 32],
+    parents: [u8; Limits::UNITS],
     list: &[u16],
-    messages: &mut [u16],
-    rows: &mut [[u16; 32]],
     hops: &mut [model::Hop],
     book: &mut [u16],
     out: &mut [u8],
 ) -> Totals
-    ensures { λ r. ⌜ BenchRun units count groups parents (now (list .entry)) (now (messages .entry)) (now (rows .entry)) (now (hops .entry)) (now (book .entry)) (now (out .entry))
-        r (now (messages .exit)) (now (rows .exit)) (now (hops .exit)) (now (book .exit)) (now (out .exit)) ⌝ }
+    ensures { λ r. ⌜ BenchRun units count groups parents (now (list .entry)) (now (hops .entry)) (now (book .entry)) (now (out .entry))
+        r (now (hops .exit)) (now (book .exit)) (now (out .exit)) ⌝ }
 {
     let fresh = Bench::fresh(units, groups, count, parents, hops, book);
-    let topology = topology_of(fresh);
-    let tables = in_place::tables_of(topology);
-    let start = events::begun(count);
-    let end = events::run_events(start, list, &tables, messages, rows, hops, book, out);
-    let lent = hops.len();
-    let rest = events::rested(end, lent);
-    results::finish(end, rest, &tables, rows, book, out)
+    let first = bench_of(fresh);
+    let tables = bench::tables_of(first);
+    let mut messages = bench::messages_of(first);
+    let mut pairs = bench::pairs_of(first);
+    let mut gauges = bench::gauges_of(first);
+    let start = events::begun(count, bench::totals_of(first));
+    let end = events::run_events(
+        start,
+        list,
+        &tables,
+        &mut messages,
+        &mut pairs,
+        &mut gauges,
+        hops,
+        book,
+        out,
+    );
+    let rest = bench_engine::rest(events::totals_of(end), hops);
+    results::finish(end, rest, &tables, &gauges, book, out)
 }
 
 // The same, with hops of its own.
 pub fn run_bench(
     units: usize,
-    groups: [u32; 24],
+    groups: [u32; Limits::GROUPS],
     count: usize,
-    parents: [u8; 32],
+    parents: [u8; Limits::UNITS],
     list: &[u16],
-    messages: &mut [u16],
-    rows: &mut [[u16; 32]],
     book: &mut [u16],
     out: &mut [u8],
 ) -> Totals
-    ensures { λ r. ⌜ ((hops : List Hop) × BenchRun units count groups parents (now (list .entry)) (now (messages .entry)) (now (rows .entry)) (replicate 2000 noHop)
-        (now (book .entry)) (now (out .entry)) r (now (messages .exit)) (now (rows .exit)) hops (now (book .exit)) (now (out .exit))) ⌝ }
+    ensures { λ r. ⌜ ((hops : List Hop) × BenchRun units count groups parents (now (list .entry)) (replicate 2000 noHop)
+        (now (book .entry)) (now (out .entry)) r hops (now (book .exit)) (now (out .exit))) ⌝ }
 {
     let mut hops = [model::Hop {
         sender: 0,
@@ -66,17 +74,6 @@ pub fn run_bench(
         sequence: 0,
         message: 0,
         state: 0,
-    }; 2000];
-    run_hops(
-        units,
-        groups,
-        count,
-        parents,
-        list,
-        messages,
-        rows,
-        &mut hops,
-        book,
-        out,
-    )
+    }; Limits::HOPS];
+    run_hops(units, groups, count, parents, list, &mut hops, book, out)
 }

@@ -1,21 +1,20 @@
 // The events of a file, run on a bench one after the other; the line of a refused event is printed at once.
-use in_place::Arrived;
-use in_place::Sent;
-use in_place::Totals;
-use relay::ArriveReply;
-use relay::RestReply;
-use relay::SendReply;
+use bench_engine::Arrived;
+use bench_engine::Sent;
+use bench_promises::ArriveReply;
+use bench_promises::SendReply;
+use bench_promises::Totals;
+use bench_store::Limits;
 ghost use mathlib.Core.Path.{_≡_};
 ghost use Prim.Native.Nat.{_-_};
-ghost use mathlib.Core.List.{[]};
 ghost use lib.ListN.{getD};
-ghost use Rattle.relay.specs.Machine.{restReply};
-ghost use Rattle.in_place.specs.InPlace.{benchIn};
 ghost use Rattle.model.specs.Demand3.{carried};
-ghost use Rattle.relay.specs.Replies.{sendAnswer, arriveAnswer};
-ghost use Rattle.runner.specs.Steps.{stageOf, begunIn, isGoing, eventAt, isSend, refusalOf, afterSendIn, afterArriveIn, EventRun, NotedIn, EventsRun};
+ghost use Rattle.bench_promises.specs.Replies.{sendAnswer, arriveAnswer};
+ghost use Rattle.bench_promises.specs.State.{bench};
+ghost use Rattle.runner.specs.Steps.{begunWith, isGoing, eventAt, isSend, refusalOf, afterSend, afterArrive, EventRun, Noted};
+ghost use Rattle.runner.specs.Steps.{EventsRun};
 
-// How far a run has come; the tables of the bench stand in lent lists (crate `in_place`).
+// How far a run has come; the lists of the bench are lent (crate `bench_engine`).
 pub struct Progress {
     pub totals: Totals,
     // the place after what was printed
@@ -37,15 +36,14 @@ pub struct Event {
 }
 
 // Before the first event, which stands in the fourth line after those of the groups.
-pub fn begun(groups: usize) -> Progress
-    ensures { λ r. ⌜ r ≡ begunIn groups ⌝ }
+pub fn begun(groups: usize, totals: Totals) -> Progress
+    ensures { λ r. ⌜ r ≡ begunWith groups totals ⌝ }
 {
-    let totals = in_place::no_totals();
     Progress {
         totals,
         at: 0,
         count: 0,
-        line: tables::plus((groups % 65536) as u16, 4),
+        line: bench_store::plus((groups % 65536) as u16, 4),
         taken: 0,
         refusal: 0,
     }
@@ -111,18 +109,10 @@ fn third(e: Event) -> u16
     e.third
 }
 
-fn totals_of(p: Progress) -> Totals
+pub fn totals_of(p: Progress) -> Totals
     ensures { λ r. ⌜ r ≡ p .totals ⌝ }
 {
     p.totals
-}
-
-// What the bench's call `rest` answers.
-pub fn rested(p: Progress, hops: usize) -> RestReply
-    ensures { λ r. ⌜ r ≡ restReply (benchIn (p .totals) [] [] []) hops ⌝ }
-{
-    let totals = p.totals;
-    in_place::rest(totals, hops)
 }
 
 // Why a send was turned away: document 01's number, or 0.
@@ -163,7 +153,7 @@ fn carried_by(reply: ArriveReply) -> u16
 }
 
 fn after_send(p: Progress, sent: Sent) -> Progress
-    ensures { λ r. ⌜ r ≡ afterSendIn p sent ⌝ }
+    ensures { λ r. ⌜ r ≡ afterSend p sent ⌝ }
 {
     let totals = sent.totals;
     let reply = sent.reply;
@@ -178,7 +168,7 @@ fn after_send(p: Progress, sent: Sent) -> Progress
 }
 
 fn after_arrive(p: Progress, arrived: Arrived) -> Progress
-    ensures { λ r. ⌜ r ≡ afterArriveIn p arrived ⌝ }
+    ensures { λ r. ⌜ r ≡ afterArrive p arrived ⌝ }
 {
     let totals = arrived.totals;
     let reply = arrived.reply;
@@ -187,7 +177,7 @@ fn after_arrive(p: Progress, arrived: Arrived) -> Progress
         at: p.at,
         count: p.count,
         line: p.line,
-        taken: tables::plus(p.taken, carried_by(reply)),
+        taken: bench_store::plus(p.taken, carried_by(reply)),
         refusal: arrive_refusal(reply),
     }
 }
@@ -197,40 +187,44 @@ fn run_event(
     p: Progress,
     e: Event,
     tables: &[u32],
-    messages: &mut [u16],
-    rows: &mut [[u16; 32]],
+    messages: &mut [u32],
+    pairs: &mut [[[u16; Limits::UNITS]; Limits::UNITS]],
+    gauges: &mut [u16],
     hops: &mut [model::Hop],
     book: &mut [u16],
 ) -> Progress
-    ensures { λ r. ⌜ EventRun (stageOf p (now (tables .entry)) (now (messages .entry)) (now (rows .entry))) e (now (hops .entry)) (now (book .entry))
-        (stageOf r (now (tables .entry)) (now (messages .exit)) (now (rows .exit))) (now (hops .exit)) (now (book .exit)) ⌝ }
+    ensures { λ r. ⌜ EventRun p (bench (p .totals) (now (tables .entry)) (now (messages .entry)) (now (pairs .entry))
+        (now (gauges .entry))) e
+        (now (hops .entry)) (now (book .entry))
+        r (bench (r .totals) (now (tables .entry)) (now (messages .exit)) (now (pairs .exit)) (now (gauges .exit)))
+        (now (hops .exit)) (now (book .exit)) ⌝ }
 {
     let totals = totals_of(p);
     let second = second(e);
     if is_send(e) {
-        let sent = in_place::send(
+        let sent = bench_engine::send(
             totals,
             source(e),
             second,
             third(e),
             tables,
             messages,
-            rows,
+            pairs,
             hops,
         );
         return after_send(p, sent);
     }
-    let arrived = in_place::arrive(totals, second, tables, messages, rows, hops, book);
+    let arrived = bench_engine::arrive(totals, second, tables, messages, pairs, gauges, hops, book);
     after_arrive(p, arrived)
 }
 
 // Prints the line of the last event if it was turned away, and goes on to the next.
 fn noted(p: Progress, out: &mut [u8]) -> Progress
-    ensures { λ r. ⌜ NotedIn p (now (out .entry)) r (now (out .exit)) ⌝ }
+    ensures { λ r. ⌜ Noted p (now (out .entry)) r (now (out .exit)) ⌝ }
 {
     let mut next = p;
-    next.count = tables::plus(p.count, 1);
-    next.line = tables::plus(p.line, 1);
+    next.count = bench_store::plus(p.count, 1);
+    next.line = bench_store::plus(p.line, 1);
     next.refusal = 0;
     if p.refusal != 0 {
         next.at = output_lines::put_refusal(out, p.at, p.line, p.refusal as u16);
@@ -243,20 +237,23 @@ pub fn run_events(
     start: Progress,
     list: &[u16],
     tables: &[u32],
-    messages: &mut [u16],
-    rows: &mut [[u16; 32]],
+    messages: &mut [u32],
+    pairs: &mut [[[u16; Limits::UNITS]; Limits::UNITS]],
+    gauges: &mut [u16],
     hops: &mut [model::Hop],
     book: &mut [u16],
     out: &mut [u8],
 ) -> Progress
-    ensures { λ r. ⌜ EventsRun (now (list .entry)) (stageOf start (now (tables .entry)) (now (messages .entry)) (now (rows .entry)))
+    ensures { λ r. ⌜ EventsRun (now (list .entry))
+        start (bench (start .totals) (now (tables .entry)) (now (messages .entry)) (now (pairs .entry)) (now (gauges .entry)))
         (now (hops .entry)) (now (book .entry)) (now (out .entry))
-        (stageOf r (now (tables .entry)) (now (messages .exit)) (now (rows .exit))) (now (hops .exit)) (now (book .exit)) (now (out .exit)) ⌝ }
+        r (bench (r .totals) (now (tables .entry)) (now (messages .exit)) (now (pairs .exit)) (now (gauges .exit)))
+        (now (hops .exit)) (now (book .exit)) (now (out .exit)) ⌝ }
 {
     let mut p = start;
     while is_going(p, list) {
         let e = event_at(p, list);
-        let q = run_event(p, e, tables, messages, rows, hops, book);
+        let q = run_event(p, e, tables, messages, pairs, gauges, hops, book);
         p = noted(q, out);
     }
     p

@@ -4,6 +4,7 @@ mod events;
 mod reading;
 mod results;
 
+use bench_store::Limits;
 use benchfile::Content;
 ghost use mathlib.Core.Path.{_≡_};
 ghost use mathlib.Core.List.{[], _∷_, _++_};
@@ -25,8 +26,8 @@ pub struct RunAnswer {
 }
 
 impl RunAnswer {
-    // The least length of the lent list. A number has at most five digits: 3,000 refused events of 20 bytes, 32 logs of 1,210, `hops=` of 11 and
-    // `rest=` of 9.
+    // The least length of the lent list. A number has at most five digits: 3,000 refused events of 20 bytes, 32 logs of 1,210, `hops=` of
+    // 11 and `rest=` of 9.
     pub const OUTPUT: usize = 98740;
 }
 
@@ -60,17 +61,13 @@ fn run_content(content: Content, line: u16, list: &[u16], out: &mut [u8]) -> Run
     }
     let parents = forest.parents;
     let groups = content.groups;
-    let mut messages = [0u16; 600];
-    let mut rows = [[0u16; 32]; 65];
-    let mut book = [0u16; 6400];
+    let mut book = [0u16; Limits::BOOK];
     let totals = benches::run_bench(
         content.units as usize,
         groups,
         content.count as usize,
         parents,
         list,
-        &mut messages,
-        &mut rows,
         &mut book,
         out,
     );

@@ -1,12 +1,13 @@
 // What is printed once the events were run: the logs, the hops, the rest.
 use crate::events::Progress;
-use relay::RestReply;
+use bench_promises::RestReply;
 ghost use mathlib.Core.Path.{_≡_};
-ghost use Rattle.relay.specs.Replies.{restAnswer};
-ghost use mathlib.Core.List.{[], _∷_, _++_};
-ghost use Rattle.text.specs.Writing.{Written};
-ghost use Rattle.output_lines.specs.Output.{logLine};
-ghost use Rattle.runner.specs.Steps.{partOf, LogsPut, saysRest, FinishedIn};
+ghost use mathlib.Core.List.{List};
+ghost use Prim.Native.Nat.{ℕ};
+ghost use Rattle.bench_promises.specs.declared.Totals.{Totals as BenchTotals};
+ghost use Rattle.bench_promises.specs.State.{bench};
+ghost use Rattle.bench_promises.specs.Replies.{restAnswer};
+ghost use Rattle.runner.specs.Steps.{UnitPut, LogsPut, saysRest, Finished};
 
 // How many bytes were printed, and the sum of the numbers that the answers of taken carry.
 pub struct Totals {
@@ -18,29 +19,33 @@ pub struct Totals {
 fn put_unit(
     unit: u16,
     tables: &[u32],
-    rows: &[[u16; 32]],
+    gauges: &[u16],
     book: &[u16],
     out: &mut [u8],
     at: usize,
 ) -> usize
-    ensures { λ r. ⌜ Written (logLine unit (partOf (now (tables .entry)) (now (rows .entry)) (now (book .entry)) unit) ++ 10 ∷ []) at (now (out .entry)) r (now (out .exit)) ⌝ }
+    ensures { λ r. ⌜ ((t : BenchTotals) (ms : List ℕ) (ps : List (List (List ℕ)))
+        → UnitPut (bench t (now (tables .entry)) ms ps (now (gauges .entry))) unit (now (book .entry)) (now (out .entry)) at r
+        (now (out .exit))) ⌝ }
 {
-    let log = in_place::log(unit, tables, rows, book);
+    let log = bench_engine::log(unit, tables, gauges, book);
     output_lines::put_log(out, at, unit, log)
 }
 
 // The logs of the first units, at most 32.
-fn put_logs(tables: &[u32], rows: &[[u16; 32]], book: &[u16], out: &mut [u8], at: usize) -> usize
-    ensures { λ r. ⌜ LogsPut (now (tables .entry)) (now (rows .entry)) (now (book .entry)) (now (out .entry)) at r (now (out .exit)) ⌝ }
+fn put_logs(tables: &[u32], gauges: &[u16], book: &[u16], out: &mut [u8], at: usize) -> usize
+    ensures { λ r. ⌜ ((t : BenchTotals) (ms : List ℕ) (ps : List (List (List ℕ)))
+        → LogsPut (bench t (now (tables .entry)) ms ps (now (gauges .entry))) (now (book .entry)) (now (out .entry)) at r
+        (now (out .exit))) ⌝ }
 {
-    let units = in_place::unit_count(tables);
+    let units = forest_tables::unit_count(tables);
     let mut next = at;
     let mut u: u16 = 0;
     while u < 32 {
         if units <= u as usize {
             return next;
         }
-        next = put_unit(u, tables, rows, book, out, next);
+        next = put_unit(u, tables, gauges, book, out, next);
         u += 1;
     }
     next
@@ -61,13 +66,15 @@ pub fn finish(
     p: Progress,
     rest: RestReply,
     tables: &[u32],
-    rows: &[[u16; 32]],
+    gauges: &[u16],
     book: &[u16],
     out: &mut [u8],
 ) -> Totals
-    ensures { λ r. ⌜ FinishedIn p rest (now (tables .entry)) (now (rows .entry)) (now (book .entry)) (now (out .entry)) r (now (out .exit)) ⌝ }
+    ensures { λ r. ⌜ ((ms : List ℕ) (ps : List (List (List ℕ)))
+        → Finished p (bench (p .totals) (now (tables .entry)) ms ps (now (gauges .entry))) rest (now (book .entry)) (now (out .entry)) r
+        (now (out .exit))) ⌝ }
 {
-    let hops = put_logs(tables, rows, book, out, p.at);
+    let hops = put_logs(tables, gauges, book, out, p.at);
     let totals = p.totals;
     let last = output_lines::put_hops(out, hops, totals.made);
     let bytes = output_lines::put_rest(out, last, is_rest(rest));

@@ -2,7 +2,7 @@
 mod answers;
 mod contents;
 
-ghost use Rattle.call_lists.specs.Rules.{given};
+ghost use Rattle.call_replay.specs.Rules.{given};
 ghost use Rattle.scrollcairn_c.specs.Exported.{RunExported, BuildExported, CheckExported, ReadExported, WriteExported, CallsExported};
 
 // Runs a bench file.
@@ -104,7 +104,7 @@ pub extern "C" fn scrollcairn_calls(
     calls: &[u16],
     book: &mut [u16],
     hops: &mut [u16],
-    bench: &mut [u16],
+    bench: &mut [u32],
     replies: &mut [u16],
     answer: &mut [u64; 3],
 )
@@ -112,7 +112,7 @@ pub extern "C" fn scrollcairn_calls(
         (now (book .entry)) (now (hops .entry)) (now (bench .entry)) (now (replies .entry)))
         (now (book .exit)) (now (hops .exit)) (now (bench .exit)) (now (replies .exit)) (now (answer .exit)) ⌝ }
 {
-    let told = call_lists::run(
+    let told = call_replay::run(
         units,
         *groups,
         count,

@@ -40,7 +40,7 @@ impl LentCall {
 pub struct Lists {
     pub book: Vec<u16>,
     pub hops: Vec<u16>,
-    pub bench: Vec<u16>,
+    pub bench: Vec<u32>,
     pub replies: Vec<u16>,
 }
 
@@ -157,22 +157,27 @@ fn fresh_lent(random: &mut Random, short: bool, enough: usize, all: usize) -> us
     }
 }
 
-/// Lists of rubbish: long enough or longer, and now and then one that is too short.
+/// The length of a list: long enough or longer, and now and then too short.
+fn list_length(random: &mut Random, enough: usize) -> usize {
+    match random.below(60) {
+        0 if enough > 0 => random.pick(&[0, enough - 1, enough / 2]),
+        1..=20 => enough + random.between(1, 50),
+        _ => enough,
+    }
+}
+
+/// Lists of rubbish.
 fn lists(random: &mut Random, calls: usize) -> Lists {
-    let mut list = |enough: usize| {
-        let length = match random.below(60) {
-            0 if enough > 0 => random.pick(&[0, enough - 1, enough / 2]),
-            1..=20 => enough + random.between(1, 50),
-            _ => enough,
-        };
+    let list = |random: &mut Random, enough| {
+        let length = list_length(random, enough);
         random.rubbish(length)
     };
-    Lists {
-        book: list(BOOK),
-        hops: list(HOP_NUMBERS),
-        bench: list(BENCH_NUMBERS),
-        replies: list(REPLY_NUMBERS * calls),
-    }
+    let book = list(random, BOOK);
+    let hops = list(random, HOP_NUMBERS);
+    let bench_length = list_length(random, BENCH_NUMBERS);
+    let bench = random.wide_rubbish(bench_length);
+    let replies = list(random, REPLY_NUMBERS * calls);
+    Lists { book, hops, bench, replies }
 }
 
 /// The input in words and numbers.

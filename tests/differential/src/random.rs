@@ -45,6 +45,11 @@ impl Random {
         (0..length).map(|_| self.next() as u16).collect()
     }
 
+    /// The same, of 32-bit numbers.
+    pub fn wide_rubbish(&mut self, length: usize) -> Vec<u32> {
+        (0..length).map(|_| self.next() as u32).collect()
+    }
+
     pub fn shuffle<T>(&mut self, list: &mut [T]) {
         for at in (1..list.len()).rev() {
             list.swap(at, self.below(at + 1));

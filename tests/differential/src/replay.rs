@@ -115,20 +115,20 @@ fn tally_reply(kind: u16, value: u16, tally: &mut Tally) {
 }
 
 /// The list `bench` of the header.
-fn bench_numbers(bench: &Bench, hops: &[Hop], book: &[u16]) -> Vec<u16> {
+fn bench_numbers(bench: &Bench, hops: &[Hop], book: &[u16]) -> Vec<u32> {
     let made = &hops[..bench.hops_made()];
     let taken = made.iter().filter(|hop| hop.state == TAKEN);
     let messages = bench.messages();
     let counts = [made.len(), taken.clone().count(), messages.len(), bench.route_sizes()];
-    let mut numbers: Vec<u16> = counts.iter().map(|&count| count as u16).collect();
-    let length = |unit| bench.log_length(unit as u16, book).unwrap_or(0);
+    let mut numbers: Vec<u32> = counts.iter().map(|&count| count as u32).collect();
+    let length = |unit| u32::from(bench.log_length(unit as u16, book).unwrap_or(0));
     numbers.extend((0..UNITS).map(length));
-    let filled = |field: Vec<u16>| field.into_iter().chain([0; MESSAGES]).take(MESSAGES);
-    numbers.extend(filled(messages.iter().map(|m| m.source).collect()));
-    numbers.extend(filled(messages.iter().map(|m| m.group).collect()));
-    numbers.extend(filled(messages.iter().map(|m| m.word).collect()));
+    let filled = |field: Vec<u32>| field.into_iter().chain([0; MESSAGES]).take(MESSAGES);
+    numbers.extend(filled(messages.iter().map(|m| m.source.into()).collect()));
+    numbers.extend(filled(messages.iter().map(|m| m.group.into()).collect()));
+    numbers.extend(filled(messages.iter().map(|m| m.word.into()).collect()));
     for sender in 0..UNITS {
-        numbers.extend((0..UNITS).map(|receiver| bench.pair_count(sender, receiver)));
+        numbers.extend((0..UNITS).map(|receiver| u32::from(bench.pair_count(sender, receiver))));
     }
     let mut pairs = [0; UNITS * UNITS];
     for hop in taken {

@@ -57,7 +57,7 @@ extern "C" {
         book_length: usize,
         hops: *mut u16,
         hops_length: usize,
-        bench: *mut u16,
+        bench: *mut u32,
         bench_length: usize,
         replies: *mut u16,
         replies_length: usize,

@@ -145,7 +145,7 @@ pub struct Fresh<'a> {
 pub struct Lists {
     pub book: Vec<u16>,
     pub hops: Vec<u16>,
-    pub bench: Vec<u16>,
+    pub bench: Vec<u32>,
     pub replies: Vec<u16>,
 }
 

@@ -43,22 +43,22 @@ pub fn replies(numbers: &[u16]) -> Option<Vec<Reply>> {
 /// What a bench keeps after the calls.
 #[derive(Clone, Debug, PartialEq, Eq)]
 pub struct Left {
-    pub hops_made: u16,
-    pub hops_taken: u16,
-    pub messages: u16,
-    pub route_sizes: u16,
-    pub log_lengths: Vec<u16>,
-    pub sources: Vec<u16>,
-    pub groups: Vec<u16>,
-    pub words: Vec<u16>,
+    pub hops_made: u32,
+    pub hops_taken: u32,
+    pub messages: u32,
+    pub route_sizes: u32,
+    pub log_lengths: Vec<u32>,
+    pub sources: Vec<u32>,
+    pub groups: Vec<u32>,
+    pub words: Vec<u32>,
     /// Sender by receiver.
-    pub pairs_made: Vec<u16>,
-    pub pairs_taken: Vec<u16>,
+    pub pairs_made: Vec<u32>,
+    pub pairs_taken: Vec<u32>,
 }
 
 impl Left {
     /// From the first 2,684 numbers of the list `bench`.
-    pub fn from_numbers(bench: &[u16]) -> Left {
+    pub fn from_numbers(bench: &[u32]) -> Left {
         let mut at = 4;
         let mut next = |length: usize| {
             at += length;

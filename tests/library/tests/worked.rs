@@ -57,7 +57,7 @@ fn sevens(calls: usize) -> Lists {
     Lists {
         book: list(BOOK),
         hops: list(HOP_NUMBERS),
-        bench: list(BENCH_NUMBERS),
+        bench: vec![7; BENCH_NUMBERS],
         replies: list(REPLY_NUMBERS * calls),
     }
 }

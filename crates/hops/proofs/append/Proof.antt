@@ -1,10 +1,10 @@
 -- `append` meets its contract: a walk of its MIR, by hand. Where the place is in the list the slice is opened, the record there is stored to, and the slice is closed;
 -- else nothing is stored, and the list with the record set at that place is the list as it was. Both arms end in `ends`.
-use Rattle.walks.proofs.Prelude.{_≡_, refl, sym, ap, subst, [], _∷_, List, ℕ, _<_, _≤_, ltb, ltb→lt, nltb→le, set, length-set, set-out, URA, fullShare, w64, vunit, vbool, vint}
-use Rattle.walks.proofs.Prelude.{vptr, emp, Heap, Tables, Atoms, factI, givenOf, tablesOf, Given, Sq, runs, atRet, ‵, _$_, !, move, drop, rewrite, check, done, look, init}
-use Rattle.walks.proofs.Prelude.{store-raw, forget, stop, hop, from, lit, unit-lit, of-opd, bin, assigns-last, exec, returns, place-is, Loan, slice, Holds, opens, closes, Handed}
-use Rattle.walks.proofs.Prelude.{Fit, Duty, Rooms, suited, Goes, starts, duty, Done-at, own-tables, proved-own, var, len-of, base-of, equals, sets, Holding, empty, holds, envAt}
-use Rattle.walks.proofs.Prelude.{stack, Blocks, leaves, if-then}
+use Rattle.hand_proofs.proofs.Prelude.{_≡_, refl, sym, ap, subst, [], _∷_, List, ℕ, _<_, _≤_, ltb, ltb→lt, nltb→le, set, length-set, set-out, URA, fullShare, w64, vunit, vbool, vint}
+use Rattle.hand_proofs.proofs.Prelude.{vptr, emp, Heap, Tables, Atoms, factI, givenOf, tablesOf, Given, Sq, runs, atRet, ‵, _$_, !, move, drop, rewrite, check, done, look, init}
+use Rattle.hand_proofs.proofs.Prelude.{store-raw, forget, stop, hop, from, lit, unit-lit, of-opd, bin, assigns-last, exec, returns, place-is, Loan, slice, Holds, opens, closes, Handed}
+use Rattle.hand_proofs.proofs.Prelude.{Fit, Duty, Rooms, suited, Goes, starts, duty, Done-at, own-tables, proved-own, var, len-of, base-of, equals, sets, Holding, empty, holds, envAt}
+use Rattle.hand_proofs.proofs.Prelude.{stack, Blocks, leaves, if-then}
 use Rattle.model.specs.declared.Hop.{Hop}
 use Rattle.hops.proofs.Records.{R, low, typed, out, put-in, place-fits}
 use Rattle.hops.proofs.Called.{append-callee}

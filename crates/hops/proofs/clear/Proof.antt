@@ -1,16 +1,16 @@
 -- `clear` meets its contract: a walk of its MIR, by hand. The loop keeps that the first `at` places of the list are cleared.
 -- A turn calls `no_hop`, and lends the slice to `append`.
-use Rattle.walks.proofs.Prelude.{_≡_, refl, sym, ap, [], _∷_, List, WellFounded, InvImage·wf, ℕ, _+_, _-_, _<_, _≤_, _^_, arith, T, ltb, ltb→lt, nltb→le, set, Nat·lt-wfRel, URA}
-use Rattle.walks.proofs.Prelude.{w64, vunit, vbool, vint, emp, Heap, Env, Tables, afterTurn, Atoms, fmOf, factI, givenOf, tablesOf, Given, Item, Sq, runs, atRet, anyQ, ‵, _$_, ! }
-use Rattle.walks.proofs.Prelude.{rewrite, check, done, look, init, store, forget, lit, unit-lit, of-opd, no-more, bin, first, blocks, exec, again, loops, returns, Triple, cited}
-use Rattle.walks.proofs.Prelude.{Loan, slice, Holds, Handed, Fit, contractOf, calls, Duty, Rooms, suited, Goes, starts, duty, Done-at, own-tables, proved-own, var, ptr-of}
-use Rattle.walks.proofs.Prelude.{slice-of, _&_, sets, sets-last, into, Holding, empty, holds, envAt, stack, Blocks, leaves, while-test, Turned}
+use Rattle.hand_proofs.proofs.Prelude.{_≡_, refl, sym, ap, [], _∷_, List, WellFounded, InvImage·wf, ℕ, _+_, _-_, _<_, _≤_, _^_, arith, T, ltb, ltb→lt, nltb→le, set, Nat·lt-wfRel, URA}
+use Rattle.hand_proofs.proofs.Prelude.{w64, vunit, vbool, vint, emp, Heap, Env, Tables, afterTurn, Atoms, fmOf, factI, givenOf, tablesOf, Given, Item, Sq, runs, atRet, anyQ, ‵, _$_, ! }
+use Rattle.hand_proofs.proofs.Prelude.{rewrite, check, done, look, init, store, forget, lit, unit-lit, of-opd, no-more, bin, first, blocks, exec, again, loops, returns, Triple, cited}
+use Rattle.hand_proofs.proofs.Prelude.{Loan, slice, Holds, Handed, Fit, contractOf, calls, Duty, Rooms, suited, Goes, starts, duty, Done-at, own-tables, proved-own, var, ptr-of}
+use Rattle.hand_proofs.proofs.Prelude.{slice-of, _&_, sets, sets-last, into, Holding, empty, holds, envAt, stack, Blocks, leaves, while-test, Turned}
 use native.Mathlib.Nat.{le-antisymm}
 use native.Mathlib.Numerals.{add-one}
 use Prim.Native.Nat.{zero-le}
 use Rattle.model.specs.declared.Hop.{Hop}
 use Rattle.model.specs.Network.{noHop}
-use Rattle.tables.specs.Values.{filled}
+use Rattle.bench_store.specs.Values.{filled}
 use Rattle.hops.proofs.Records.{R, typed}
 use Rattle.hops.proofs.Called.{clear-callee, append-callee, no-hop-callee}
 use Rattle.hops.proofs.no_hop.Symbol as no-hop-def

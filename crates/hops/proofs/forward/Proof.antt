@@ -1,10 +1,10 @@
 -- `forward` meets its contract: a walk of its MIR, by hand. The loop keeps that what is left leads to the end that the start leads to (`Reaches` of Forwards.antt).
 -- A turn lends the counts to `next_hop` and the hops to `append`.
-use Rattle.walks.proofs.Prelude.{refl, ap, subst, [], _∷_, List, WellFounded, InvImage·wf, ℕ, _<_, T, set, Nat·lt-wfRel, URA, w16, vint, vbool, emp, Heap, Env, Tables, afterTurn, Atoms, fmOf}
-use Rattle.walks.proofs.Prelude.{factI, givenOf, tablesOf, Given, Item, Sq, runs, atRet, anyQ, ‵, _$_, !, move, rewrite, check, done, look, init, store, forget, of-opd, no-more, first}
-use Rattle.walks.proofs.Prelude.{blocks, exec, again, loops, returns, Is, u16, Triple, cited, stored, Loan, slice, Holds, Handed, Fit, contractOf, calls, calls-last, Duty, Rooms}
-use Rattle.walks.proofs.Prelude.{suited, Goes, starts, duty, Done-at, own-tables, proved-own, var, ptr-of, slice-of, _&_, sets, into, into-last, Holding, empty, holds, envAt}
-use Rattle.walks.proofs.Prelude.{stack, Blocks, leaves, while-test, Turned}
+use Rattle.hand_proofs.proofs.Prelude.{refl, ap, subst, [], _∷_, List, WellFounded, InvImage·wf, ℕ, _<_, T, set, Nat·lt-wfRel, URA, w16, vint, vbool, emp, Heap, Env, Tables, afterTurn, Atoms, fmOf}
+use Rattle.hand_proofs.proofs.Prelude.{factI, givenOf, tablesOf, Given, Item, Sq, runs, atRet, anyQ, ‵, _$_, !, move, rewrite, check, done, look, init, store, forget, of-opd, no-more, first}
+use Rattle.hand_proofs.proofs.Prelude.{blocks, exec, again, loops, returns, Is, u16, Triple, cited, stored, Loan, slice, Holds, Handed, Fit, contractOf, calls, calls-last, Duty, Rooms}
+use Rattle.hand_proofs.proofs.Prelude.{suited, Goes, starts, duty, Done-at, own-tables, proved-own, var, ptr-of, slice-of, _&_, sets, into, into-last, Holding, empty, holds, envAt}
+use Rattle.hand_proofs.proofs.Prelude.{stack, Blocks, leaves, while-test, Turned}
 use Rattle.model.specs.declared.Hop.{Hop}
 use Rattle.sets.specs.Sets.{size}
 use Rattle.hops.specs.declared.forwarding.Outgoing.{Outgoing}

@@ -1,8 +1,8 @@
 -- `message_at` meets its contract: a walk of its MIR, by hand. Where the place is in the list the slice is looked into, and the message of the record there is read.
-use Rattle.walks.proofs.Prelude.{refl, sym, ap, subst, [], _∷_, List, ℕ, _<_, _≤_, ltb→lt, nltb→le, getD, arith, URA, w16, w64, WT, vint, vptr, emp, Heap, Tables, Atoms, factI}
-use Rattle.walks.proofs.Prelude.{givenOf, tablesOf, Given, ‵, _$_, !, check, done, look, init, look-in, whole, sub, stop, hop, fld, from, load, lit, of-opd, bin, returns}
-use Rattle.walks.proofs.Prelude.{returns-within, Is, u16, place-is, copied, Loan, Views, looks, shuts, Handed, Fit, Duty, Rooms, suited, Goes, starts, duty, Done-at}
-use Rattle.walks.proofs.Prelude.{own-tables, proved-own, var, len-of, base-of, equals, sets, empty, holds, full, leaves, if-then}
+use Rattle.hand_proofs.proofs.Prelude.{refl, sym, ap, subst, [], _∷_, List, ℕ, _<_, _≤_, ltb→lt, nltb→le, getD, arith, URA, w16, w64, WT, vint, vptr, emp, Heap, Tables, Atoms, factI}
+use Rattle.hand_proofs.proofs.Prelude.{givenOf, tablesOf, Given, ‵, _$_, !, check, done, look, init, look-in, whole, sub, stop, hop, fld, from, load, lit, of-opd, bin, returns}
+use Rattle.hand_proofs.proofs.Prelude.{returns-within, Is, u16, place-is, copied, Loan, Views, looks, shuts, Handed, Fit, Duty, Rooms, suited, Goes, starts, duty, Done-at}
+use Rattle.hand_proofs.proofs.Prelude.{own-tables, proved-own, var, len-of, base-of, equals, sets, empty, holds, full, leaves, if-then}
 use Rattle.model.specs.declared.Hop.{Hop}
 use Rattle.model.specs.Network.{noHop, hopAt}
 use Rattle.hops.proofs.Records.{R, low, by-hop, typed, out, back-in, hop-past, place-fits}

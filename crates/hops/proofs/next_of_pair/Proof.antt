@@ -1,10 +1,10 @@
 -- `next_of_pair` meets its contract: a walk of its MIR, by hand. Each turn reads the hop at the place and returns where it is of the pair; the answer from the place on is the
 -- same at every turn.
-use Rattle.walks.proofs.Prelude.{_≡_, refl, _∙_, subst, [], _∷_, List, WellFounded, InvImage·wf, ℕ, _+_, _-_, _<_, _^_, arith, T, ltb→lt, nltb→le, Nat·lt-wfRel, URA, w8, w64, WT}
-use Rattle.walks.proofs.Prelude.{vint, emp, Heap, Env, Tables, afterTurn, Atoms, fmOf, factI, givenOf, tablesOf, Given, Item, Sq, runs, atRet, anyQ, ‵, _$_, !, check, done, look}
-use Rattle.walks.proofs.Prelude.{init, store, forget, hop, lit, of-opd, no-more, bin, first, blocks, exec, again, loops, returns, returns-within, Is, usize, Triple, cited, Loan}
-use Rattle.walks.proofs.Prelude.{slice, Views, Handed, Fit, contractOf, calls, Duty, Rooms, suited, Goes, starts, duty, Done-at, own-tables, proved-own, var, _&_, sets, sets-last}
-use Rattle.walks.proofs.Prelude.{into, empty, holds, full, envAt, stack, Blocks, leaves, if-then, while-test, Turned}
+use Rattle.hand_proofs.proofs.Prelude.{_≡_, refl, _∙_, subst, [], _∷_, List, WellFounded, InvImage·wf, ℕ, _+_, _-_, _<_, _^_, arith, T, ltb→lt, nltb→le, Nat·lt-wfRel, URA, w8, w64, WT}
+use Rattle.hand_proofs.proofs.Prelude.{vint, emp, Heap, Env, Tables, afterTurn, Atoms, fmOf, factI, givenOf, tablesOf, Given, Item, Sq, runs, atRet, anyQ, ‵, _$_, !, check, done, look}
+use Rattle.hand_proofs.proofs.Prelude.{init, store, forget, hop, lit, of-opd, no-more, bin, first, blocks, exec, again, loops, returns, returns-within, Is, usize, Triple, cited, Loan}
+use Rattle.hand_proofs.proofs.Prelude.{slice, Views, Handed, Fit, contractOf, calls, Duty, Rooms, suited, Goes, starts, duty, Done-at, own-tables, proved-own, var, _&_, sets, sets-last}
+use Rattle.hand_proofs.proofs.Prelude.{into, empty, holds, full, envAt, stack, Blocks, leaves, if-then, while-test, Turned}
 use mathlib.Core.Bool.{not}
 use Rattle.model.specs.declared.Hop.{Hop}
 use Rattle.model.specs.Network.{hopAt, isPair}

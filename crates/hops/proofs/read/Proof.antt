@@ -1,8 +1,8 @@
 -- `read` meets its contract: a walk of its MIR, by hand. Where the place is in the list the slice is looked into, and the record there is read; past it, `no_hop` answers.
-use Rattle.walks.proofs.Prelude.{refl, sym, ap, subst, [], _∷_, List, ℕ, _<_, _≤_, ltb→lt, nltb→le, getD, URA, w64, WT, vint, vptr, emp, Heap, Tables, Atoms, fmOf, factI, givenOf}
-use Rattle.walks.proofs.Prelude.{tablesOf, Given, ‵, _$_, !, check, done, look, init, look-raw, stop, hop, from, load, lit, of-opd, no-more, bin, returns, returns-within, Is}
-use Rattle.walks.proofs.Prelude.{place-is, Triple, cited, copied, Loan, Views, looks, shuts, Handed, Fit, contractOf, calls, Duty, Rooms, suited, Goes, starts, duty, Done-at}
-use Rattle.walks.proofs.Prelude.{own-tables, proved-own, var, len-of, base-of, equals, sets, into, empty, holds, full, leaves, if-then}
+use Rattle.hand_proofs.proofs.Prelude.{refl, sym, ap, subst, [], _∷_, List, ℕ, _<_, _≤_, ltb→lt, nltb→le, getD, URA, w64, WT, vint, vptr, emp, Heap, Tables, Atoms, fmOf, factI, givenOf}
+use Rattle.hand_proofs.proofs.Prelude.{tablesOf, Given, ‵, _$_, !, check, done, look, init, look-raw, stop, hop, from, load, lit, of-opd, no-more, bin, returns, returns-within, Is}
+use Rattle.hand_proofs.proofs.Prelude.{place-is, Triple, cited, copied, Loan, Views, looks, shuts, Handed, Fit, contractOf, calls, Duty, Rooms, suited, Goes, starts, duty, Done-at}
+use Rattle.hand_proofs.proofs.Prelude.{own-tables, proved-own, var, len-of, base-of, equals, sets, into, empty, holds, full, leaves, if-then}
 use Rattle.model.specs.declared.Hop.{Hop}
 use Rattle.model.specs.Network.{noHop, hopAt}
 use Rattle.hops.proofs.Records.{R, low, by-hop, typed, out, back-in, hop-past, place-fits}

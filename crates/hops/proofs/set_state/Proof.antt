@@ -1,10 +1,10 @@
 -- `set_state` meets its contract: a walk of its MIR, by hand. Where the place is in the list the slice is opened, the state of the record there is stored to, and the slice
 -- is closed; else nothing is stored, and the list with a record set at that place is the list as it was. Both arms end in `ends`.
-use Rattle.walks.proofs.Prelude.{_≡_, refl, sym, ap, subst, [], _∷_, List, ℕ, _<_, _≤_, ltb, ltb→lt, nltb→le, getD, set, length-set, set-out, URA, fullShare, w8, w64, vunit, vbool}
-use Rattle.walks.proofs.Prelude.{vint, vptr, emp, Heap, Tables, Atoms, factI, givenOf, tablesOf, Given, Sq, runs, atRet, ‵, _$_, !, move, drop, rewrite, check, done, look, init}
-use Rattle.walks.proofs.Prelude.{forget, stop, hop, fld, from, lit, unit-lit, of-opd, bin, assigns-last, exec, returns, whole, sub, store-in, place-is, Loan, slice, Holds, opens}
-use Rattle.walks.proofs.Prelude.{closes, Handed, Fit, Duty, Rooms, suited, Goes, starts, duty, Done-at, own-tables, proved-own, var, len-of, base-of, equals, sets, Holding, empty}
-use Rattle.walks.proofs.Prelude.{holds, envAt, stack, Blocks, leaves, if-then}
+use Rattle.hand_proofs.proofs.Prelude.{_≡_, refl, sym, ap, subst, [], _∷_, List, ℕ, _<_, _≤_, ltb, ltb→lt, nltb→le, getD, set, length-set, set-out, URA, fullShare, w8, w64, vunit, vbool}
+use Rattle.hand_proofs.proofs.Prelude.{vint, vptr, emp, Heap, Tables, Atoms, factI, givenOf, tablesOf, Given, Sq, runs, atRet, ‵, _$_, !, move, drop, rewrite, check, done, look, init}
+use Rattle.hand_proofs.proofs.Prelude.{forget, stop, hop, fld, from, lit, unit-lit, of-opd, bin, assigns-last, exec, returns, whole, sub, store-in, place-is, Loan, slice, Holds, opens}
+use Rattle.hand_proofs.proofs.Prelude.{closes, Handed, Fit, Duty, Rooms, suited, Goes, starts, duty, Done-at, own-tables, proved-own, var, len-of, base-of, equals, sets, Holding, empty}
+use Rattle.hand_proofs.proofs.Prelude.{holds, envAt, stack, Blocks, leaves, if-then}
 use Rattle.model.specs.declared.Hop.{Hop}
 use Rattle.model.specs.Network.{noHop, hopAt, withState, setState}
 use Rattle.hops.proofs.Records.{R, state-low, out, put-in, place-fits}

@@ -15,7 +15,13 @@ same-length c = search needs
 returns : tie.Need-returns
 returns c =
     let call = c .before .before .before in
-    record { place = call .put-refusal .result; says = c .printed .ensures .0; prints = call .put-refusal .ensures; sum = c .printed .ensures .1 }
+    record {
+      place = call .put-refusal .result;
+      says = c .printed .ensures .0;
+      prints = call .put-refusal .ensures;
+      sum = c .printed
+          .ensures .1;
+    }
 
 pub refused-spec : {M : Type 1} → statement M
 refused-spec = tie.close (tie.spec put-refusal-requires printed-requires same-length returns)

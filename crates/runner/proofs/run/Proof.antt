@@ -30,7 +30,8 @@ same-length c = search needs
 returns-2 : tie.Need-returns-2
 returns-2 c =
     let line = c .before .before .before .before .before in let number = line .before in let read = number .before .before in
-    run-turned _ _ _ (read .read .result) refl (read .read .ensures) _ _ _ (read .before .before .if1 .left) (number .reply-number .ensures) (line .reply-line .ensures)
+    run-turned _ _ _ (read .read .result) refl (read .read .ensures) _ _ _ (read .before .before .if1 .left)
+    (number .reply-number .ensures) (line .reply-line .ensures)
     (c .before .before .before .before .if2 .taken) (c .before .before .refused .ensures)
 
 reply-count-requires : tie.Need-reply-count-requires
@@ -56,7 +57,8 @@ returns-3 : tie.Need-returns-3
 returns-3 c =
     let count = c .before .before .before .before .before in let line = count .before .before in let number = line .before in
     let read = number .before .before in
-    run-read _ _ _ (read .read .result) refl (read .read .ensures) _ _ _ (read .before .before .if1 .left) (number .reply-number .ensures) (line .reply-line .ensures)
+    run-read _ _ _ (read .read .result) refl (read .read .ensures) _ _ _ (read .before .before .if1 .left) (number .reply-number .ensures)
+    (line .reply-line .ensures)
     (count .before .if2 .left) (rw (count .reply-count .ensures) at (c .before .before .run-content .ensures))
 
 pub run-spec : {M : Type 1} → statement M

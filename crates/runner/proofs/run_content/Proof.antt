@@ -33,12 +33,6 @@ cast-run-bench-2 c = search needs
 slice-aggregate-run-bench : tie.Need-slice-aggregate-run-bench
 slice-aggregate-run-bench c = search needs
 
-slice-aggregate-run-bench-2 : tie.Need-slice-aggregate-run-bench-2
-slice-aggregate-run-bench-2 c = search needs
-
-slice-aggregate-run-bench-3 : tie.Need-slice-aggregate-run-bench-3
-slice-aggregate-run-bench-3 c = search needs
-
 run-bench-requires : tie.Need-run-bench-requires
 run-bench-requires c κs = search needs
 
@@ -50,11 +44,18 @@ same-length-2 c = search needs
 
 returns-2 : tie.Need-returns-2
 returns-2 c =
-    let places : length (c .before .before .before .before .before .before .before .before .before .before .before .before .before .before .before .before .before .before .before .before .args .content .groups) ≡ 24 =
-    search (needs, c .before .before .before .before .before .before .before .before .before .before .before .before .before .before .before .before .before .before .before .before .good) in
-    let run = c .before .before .before .before .before .before in let test = run .before .before .before .before .before .before .before .before .before in let number = test .before in let forest = number .before in
+    let places : length (c .before .before .before .before .before .before .before .before .before .before .before .before .before .before
+    .before .before .args .content .groups) ≡ 24 =
+    search (
+      needs,
+      c .before .before .before .before .before .before .before .before .before .before .before .before .before .before
+          .before .before .good,
+    ) in
+    let run = c .before .before .before .before in let test = run .before .before .before .before .before .before .before in
+    let number = test .before in let forest = number .before in
     content-ran (forest .forest-of .result .verdict) (forest .forest-of .ensures .0) (number .verdict-number .ensures)
-    (forest .forest-of .result .parents) (test .if1 .left) (forest .forest-of .ensures .1) places refl (run .run-bench .ensures .1) (c .printed .ensures)
+    (forest .forest-of .result .parents) (test .if1 .left) (forest .forest-of .ensures .1) places refl (run .run-bench .ensures .1)
+    (c .printed .ensures)
 
 pub run-content-spec : {M : Type 1} → statement M
 run-content-spec =
@@ -68,8 +69,6 @@ run-content-spec =
     cast-run-bench
     cast-run-bench-2
     slice-aggregate-run-bench
-    slice-aggregate-run-bench-2
-    slice-aggregate-run-bench-3
     run-bench-requires
     printed-requires
     same-length-2

@@ -3,7 +3,7 @@ use mathlib.Core.Path.{sym, ap}
 use Prim.Native.Nat.{ℕ}
 use lib.ListN.{set, List·getD-eq-default}
 use lib.Seq.{set-out}
-use Rattle.tables.specs.Values.{plus, added}
+use Rattle.bench_store.specs.Values.{plus, added}
 use borrow.Author.Needs.{needs}
 use Rattle.hops.proofs.forwarding.count_at.Statement.{statement}
 use Rattle.hops.proofs.forwarding.count_at.Tie as tie

@@ -6,7 +6,7 @@ use native.Mathlib.Omega.{arith}
 use lib.Count.{trailing-le}
 use lib.ListN.{getD}
 use Rattle.sets.specs.Sets.{lowest}
-use Rattle.tables.specs.Values.{plus, added}
+use Rattle.bench_store.specs.Values.{plus, added}
 use Rattle.hops.specs.Access.{withCounts, nextHop, afterNext}
 use borrow.Author.Needs.{needs}
 use Rattle.hops.proofs.forwarding.next_hop.Statement.{statement}

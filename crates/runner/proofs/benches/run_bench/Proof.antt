@@ -1,13 +1,15 @@
--- `benches::run_bench` meets its contract: a walk of its MIR, by hand. The local array of hops is filled with zeros and lent to `run_hops`, with the lists.
-use Rattle.walks.proofs.Prelude.{refl, [], _∷_, List, ℕ, _<_, _^_, arith, replicate, URA, w64, WT, vint, emp, Heap, Tables, Atoms, fmOf, factI, givenOf, tablesOf, Given, ‵}
-use Rattle.walks.proofs.Prelude.{_$_, !, move, look, init, stop, from, addr, lit, agg, no-more, returns, u8, u16, Triple, cited, stored, by-array, Loan, Holds, Views, Handed}
-use Rattle.walks.proofs.Prelude.{Fit, contract-related, calls-related, Rooms, suited, RelationalDuty, Goes-related, starts-related, duty-related, concludes, own-tables}
-use Rattle.walks.proofs.Prelude.{proved-own-related, var, ptr-of, slice-of, big-lit, _&_, sets, into, full, leaves, repeated, repeats, array-loan, lends-array, array-back}
+-- `benches::run_bench` meets its contract: a walk of its MIR, by hand. The local array of hops is filled with zeros and lent to `run_hops`,
+-- with the lists.
+use Rattle.hand_proofs.proofs.Prelude.{refl, [], _∷_, List, ℕ, _<_, _^_, arith, replicate, URA, w64, WT, vint, emp, Heap, Tables, Atoms}
+use Rattle.hand_proofs.proofs.Prelude.{fmOf, factI, givenOf, tablesOf, Given, ‵, _$_, !, move, look, init, stop, from, addr, lit, agg}
+use Rattle.hand_proofs.proofs.Prelude.{no-more, returns, u8, u16, Triple, cited, stored, by-array, Loan, Holds, Views, Handed, Fit}
+use Rattle.hand_proofs.proofs.Prelude.{contract-related, calls-related, Rooms, suited, RelationalDuty, Goes-related, starts-related}
+use Rattle.hand_proofs.proofs.Prelude.{duty-related, concludes, own-tables, proved-own-related, var, ptr-of, slice-of, big-lit, _&_, sets}
+use Rattle.hand_proofs.proofs.Prelude.{into, full, leaves, repeated, repeats, array-loan, lends-array, array-back}
 use denote.Slice.{Room}
 use Rattle.model.specs.declared.Hop.{Hop}
 use Rattle.model.specs.Network.{noHop}
 use Rattle.hops.proofs.Records.{R, by-hop, zeros-low, typed}
-use Rattle.in_place.proofs.Known.{Row}
 use Rattle.runner.proofs.Known.{by-totals, run-hops-callee, run-bench-callee}
 use Rattle.runner.proofs.benches.run_hops.Symbol as run-hops-def
 use Rattle.runner.proofs.benches.run_hops.Met as run-hops-thm
@@ -24,38 +26,38 @@ module _ {M : Type 1} (𝓤 : URA M) (H : Heap 𝓤) (A : Atoms 𝓤) (W : Given
   walk : (h : Handed (self .passes)) → Fit (self .passes) h → Rooms (self .passes) h → Goes-related self 𝓣 code.function h
   unfolding noHop
   walk h fit rooms =
-      -- lent: the list at I, the messages at J, the rows at K, the book at N, the output at O
-      let l = h .1 .1 .1 .1 in let I : Loan = l .0 .0 in let list : List ℕ = l .0 .1 in let J : Loan = l .1 .0 .0 in let ms : List ℕ = l .1 .0 .1 in
-      let K : Loan = l .1 .1 .0 .0 in let rows : List (List ℕ) = l .1 .1 .0 .1 in let N : Loan = l .1 .1 .1 .0 .0 in let book : List ℕ = l .1 .1 .1 .0 .1 in
-      let O : Loan = l .1 .1 .1 .1 .0 .0 in let out : List ℕ = l .1 .1 .1 .1 .0 .1 in
-      let messages-wt : WT (vint w64 (J .count)) = record { fits = rooms .1 .0 .0 .0 } in let rows-wt : WT (vint w64 (K .count)) = record { fits = rooms .1 .1 .0 .0 .0 } in
-      let book-wt : WT (vint w64 (N .count)) = record { fits = rooms .1 .1 .1 .0 .0 .0 } in let out-wt : WT (vint w64 (O .count)) = record { fits = rooms .1 .1 .1 .1 .0 .0 .0 } in
+      -- lent: the list at I, the book at N, the output at O
+      let l = h .1 .1 .1 .1 in let I : Loan = l .0 .0 in let list : List ℕ = l .0 .1 in let N : Loan = l .1 .0 .0 in
+      let book : List ℕ = l .1 .0 .1 in
+      let O : Loan = l .1 .1 .0 .0 in let out : List ℕ = l .1 .1 .0 .1 in
+      let book-wt : WT (vint w64 (N .count)) = record { fits = rooms .1 .0 .0 .0 } in
+      let out-wt : WT (vint w64 (O .count)) = record { fits = rooms .1 .1 .0 .0 .0 } in
       let fits : 2000 < 2 ^ 64 = omega arith in let room : Room R 2000 = (fits, omega arith) in
       let hs : List Hop = replicate 2000 noHop in let hs-are = repeated by-hop 2000 noHop zeros-low in
       starts-related W self 𝓣 code.function h (suited W (self .passes) h fit rooms) (λ bs.
-      -- [list; messages; rows; book; output; the locals, the last first]
-      sets ! (agg ! (lit ! tt & lit ! tt & lit ! tt & lit ! tt & lit ! tt & no-more !)) (init ! 25 refl (typed noHop zeros-low)) $
-      sets ! (repeats by-hop ! 2000 noHop (var ! 25 refl)) (init ! 27 refl (stored W (by-array R by-hop 2000) hs hs-are .0)) $
-      sets ! (ptr-of ! 35 refl refl) (init ! 23 refl (tt, tt)) $ sets ! (slice-of ! 23 35 refl refl refl) (init ! 21 refl (tt, (tt, (messages-wt, tt)))) $
-      sets ! (ptr-of ! 33 refl refl) (init ! 19 refl (tt, tt)) $ sets ! (slice-of ! 19 33 refl refl refl) (init ! 17 refl (tt, (tt, (rows-wt, tt)))) $
-      sets ! (addr ! (from ! (stop !))) (init ! 15 refl (tt, tt)) $
-      sets ! (agg ! (var ! 15 refl & big-lit ! fits & no-more !)) (init ! 13 refl (tt, (tt, (record { fits = fits }, tt)))) $
-      sets ! (ptr-of ! 31 refl refl) (init ! 11 refl (tt, tt)) $ sets ! (slice-of ! 11 31 refl refl refl) (init ! 9 refl (tt, (tt, (book-wt, tt)))) $
-      sets ! (ptr-of ! 29 refl refl) (init ! 7 refl (tt, tt)) $ sets ! (slice-of ! 7 29 refl refl refl) (init ! 5 refl (tt, (tt, (out-wt, tt)))) $
-      lends-array ! tt by-hop tt 27 2000 hs hs-are room refl (λ α γ. let L : Loan = array-loan 2000 (bs .1 .1 .1 .1 .1 .1 .1 .1 .1 .1 .0) α γ in
-      -- [hops; list; messages; rows; book; output; the locals]
-      move ! (1 ∷ 2 ∷ 3 ∷ 0 ∷ []) $
+      -- [list; book; output; the locals, the last first]
+      sets ! (agg ! (lit ! tt & lit ! tt & lit ! tt & lit ! tt & lit ! tt & no-more !)) (init ! 15 refl (typed noHop zeros-low)) $
+      sets ! (repeats by-hop ! 2000 noHop (var ! 15 refl)) (init ! 17 refl (stored W (by-array R by-hop 2000) hs hs-are .0)) $
+      sets ! (addr ! (from ! (stop !))) (init ! 13 refl (tt, tt)) $
+      sets ! (agg ! (var ! 13 refl & big-lit ! fits & no-more !)) (init ! 11 refl (tt, (tt, (record { fits = fits }, tt)))) $
+      sets ! (ptr-of ! 21 refl refl) (init ! 9 refl (tt, tt)) $ sets ! (slice-of ! 9 21 refl refl refl)
+      (init ! 7 refl (tt, (tt, (book-wt, tt)))) $
+      sets ! (ptr-of ! 19 refl refl) (init ! 5 refl (tt, tt)) $ sets ! (slice-of ! 5 19 refl refl refl)
+      (init ! 3 refl (tt, (tt, (out-wt, tt)))) $
+      lends-array ! tt by-hop tt 17 2000 hs hs-are room refl (λ α γ. let L : Loan = array-loan 2000 (bs .1 .1 .1 .1 .1 .1 .1 .1 .0) α γ in
+      -- [hops; list; book; output; the locals]
+      move ! (1 ∷ 0 ∷ []) $
       calls-related ! (fmOf 𝓤 H (W .laws) 𝓣) (run-hops-callee 𝓤 H A) of-run-hops
-      (h .0, (h .1 .0, (h .1 .1 .0, (h .1 .1 .1 .0, ((I, list), ((J, ms), ((K, rows), ((L, hs), ((N, book), ((O, out), tt))))))))))
+      (h .0, (h .1 .0, (h .1 .1 .0, (h .1 .1 .1 .0, ((I, list), ((L, hs), ((N, book), ((O, out), tt))))))))
       (fit .0, (fit .1 .0, (fit .1 .1 .0, (fit .1 .1 .1 .0, tt)))) tt refl
-      (var ! 46 refl & var ! 44 refl & var ! 42 refl & var ! 40 refl & var ! 38 refl & var ! 22 refl & var ! 18 refl & var ! 14 refl & var ! 10 refl & var ! 6 refl & no-more !)
+      (var ! 32 refl & var ! 30 refl & var ! 28 refl & var ! 26 refl & var ! 24 refl & var ! 12 refl & var ! 8 refl & var ! 4 refl &
+      no-more !)
       (λ r left ran r-is.
-      into ! (init ! 48 refl (stored W by-totals r r-is .0)) $ move ! (3 ∷ []) $ array-back ! tt by-hop 27 (left .1 .1 .0) refl (λ _.
-      -- [list; messages; rows; book; output; the locals]
-      returns ! (look ! 47 refl) $
-      leaves ! (‵ (Views u16 I list) ∷ ‵ (Holds u16 J (left .0)) ∷ ‵ (Holds Row K (left .1 .0)) ∷ ‵ (Holds u16 N (left .1 .1 .1 .0)) ∷ ‵ (Holds u8 O (left .1 .1 .1 .1 .0)) ∷ [])
-      locals bs (full locals _) tt $
-      concludes ! self h r (left .0, (left .1 .0, (left .1 .1 .1 .0, (left .1 .1 .1 .1 .0, tt)))) r-is (left .1 .1 .0, ran)))))
+      into ! (init ! 34 refl (stored W by-totals r r-is .0)) $ move ! (1 ∷ []) $ array-back ! tt by-hop 17 (left .0) refl (λ _.
+      -- [list; book; output; the locals]
+      returns ! (look ! 33 refl) $
+      leaves ! (‵ (Views u16 I list) ∷ ‵ (Holds u16 N (left .1 .0)) ∷ ‵ (Holds u8 O (left .1 .1 .0)) ∷ []) locals bs (full locals _) tt $
+      concludes ! self h r (left .1 .0, (left .1 .1 .0, tt)) r-is (left .0, ran)))))
 
 pub run-bench-spec : {M : Type 1} → stated.statement M
 unfolding code.routine tablesOf

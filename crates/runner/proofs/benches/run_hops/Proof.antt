@@ -1,36 +1,50 @@
--- `benches::run_hops` meets its contract: a walk of its MIR, by hand. `Bench::fresh` is lent the hops and the book; the tables are made of its topology, in a local array that is lent
--- to `run_events`, with the lists, and to `finish`. What they promise makes up `BenchRun`.
-use Rattle.walks.proofs.Prelude.{refl, ap, subst, [], _∷_, List, ℕ, _<_, _^_, arith, length, URA, w64, WT, vint, emp, Heap, Tables, Atoms, fmOf, factI, givenOf, tablesOf, Given, ‵}
-use Rattle.walks.proofs.Prelude.{_$_, !, move, look, init, stop, from, addr, agg, lit, of-opd, no-more, returns, u8, u16, Triple, cited, stored, by-uint, by-array, Loan, Holds, Views, Handed}
-use Rattle.walks.proofs.Prelude.{Fit, contractOf, calls, contract-related, calls-related, Rooms, suited, RelationalDuty, Goes-related, starts-related, duty-related, concludes, own-tables}
-use Rattle.walks.proofs.Prelude.{proved-own-related, var, ptr-of, len-of, slice-of, _&_, equals, sets, into, full, leaves, array-loan, lends-array, array-back}
+-- `benches::run_hops` meets its contract: a walk of its MIR, by hand. `Bench::fresh` is lent the hops and the book; the bench is taken
+-- apart into arrays, which are lent to `run_events` with the other lists, and then to `finish`; `rest` tells how it stands. What they
+-- promise makes up `BenchRun`.
+use Rattle.hand_proofs.proofs.Prelude.{refl, [], _∷_, List, ℕ, _<_, _^_, arith, URA, w16, w64, WT, vint, emp, Heap, Tables, Atoms, fmOf}
+use Rattle.hand_proofs.proofs.Prelude.{factI, givenOf, tablesOf, Given, ‵, _$_, !, move, look, init, store, stop, from, addr, agg, lit}
+use Rattle.hand_proofs.proofs.Prelude.{of-opd, no-more, returns, u8, u16, Triple, cited, stored, by-uint, Loan, Holds, Views, Handed, Fit}
+use Rattle.hand_proofs.proofs.Prelude.{contractOf, calls, contract-related, calls-related, Rooms, suited, RelationalDuty, Goes-related}
+use Rattle.hand_proofs.proofs.Prelude.{starts-related, duty-related, concludes, own-tables, proved-own-related, var, ptr-of, slice-of, _&_}
+use Rattle.hand_proofs.proofs.Prelude.{sets, into, full, leaves, array-loan, lends-array, array-back}
 use mir.Syntax.{w32}
 use denote.Builtin.{u32}
 use denote.Slice.{Room}
 use Rattle.model.specs.declared.Hop.{Hop}
 use Rattle.hops.proofs.Records.{R}
-use Rattle.relay.proofs.Known.{by-fresh, by-rest-reply}
-use Rattle.relay.specs.Machine.{restReply}
-use Rattle.relay.specs.declared.replies.RestReply.{RestReply}
-use Rattle.relay.proofs.Bench.fresh.Symbol as fresh-def
-use Rattle.relay.proofs.Bench.fresh.Met as fresh-thm
-use Rattle.in_place.specs.InPlace.{benchIn}
-use Rattle.in_place.specs.InPlace.{tablesOf as tablesIn}
-use Rattle.in_place.proofs.Known.{Row, tables-of-callee}
-use Rattle.in_place.proofs.whole.tables_of.Symbol as tables-of-def
-use Rattle.in_place.proofs.whole.tables_of.Met as tables-of-thm
+use Rattle.bench_promises.specs.declared.Totals.{Totals}
+use Rattle.bench_promises.specs.State.{Bench as BenchLists, bench}
+use Rattle.bench_engine.proofs.Known.{Grid, by-totals as by-counts, by-row, by-rest-reply, rest-shown-callee}
+use Rattle.bench.specs.declared.Bench.{Bench}
+use Rattle.bench.specs.Lists.{listsOf}
+use Rattle.bench.proofs.Known.{by-bench, by-fresh, by-tables, by-messages, by-grid, by-pairs, fresh-callee, tables-of-callee}
+use Rattle.bench.proofs.Known.{messages-of-callee, pairs-of-callee, gauges-of-callee, totals-of-callee as bench-totals-callee}
 use Rattle.runner.specs.declared.events.Progress.{Progress}
-use Rattle.runner.specs.Steps.{begunIn}
-use Rattle.runner.proofs.Known.{by-progress, by-totals, by-topology, fresh-callee, topology-of-callee, begun-callee, run-events-shown-callee, rested-callee, finish-shown-callee}
-use Rattle.runner.proofs.Known.{run-hops-callee}
-use Rattle.runner.proofs.benches.topology_of.Symbol as topology-of-def
-use Rattle.runner.proofs.benches.topology_of.Met as topology-of-thm
+use Rattle.runner.specs.Steps.{begunWith, EventsRun}
+use Rattle.runner.proofs.Known.{by-progress, by-totals, bench-of-callee, begun-callee, run-events-shown-callee, totals-of-callee}
+use Rattle.runner.proofs.Known.{finish-shown-callee, run-hops-callee}
+use Rattle.bench.proofs.Bench.fresh.Symbol as fresh-def
+use Rattle.bench.proofs.Bench.fresh.Met as fresh-thm
+use Rattle.runner.proofs.benches.bench_of.Symbol as bench-of-def
+use Rattle.runner.proofs.benches.bench_of.Met as bench-of-thm
+use Rattle.bench.proofs.tables_of.Symbol as tables-of-def
+use Rattle.bench.proofs.tables_of.Met as tables-of-thm
+use Rattle.bench.proofs.messages_of.Symbol as messages-of-def
+use Rattle.bench.proofs.messages_of.Met as messages-of-thm
+use Rattle.bench.proofs.pairs_of.Symbol as pairs-of-def
+use Rattle.bench.proofs.pairs_of.Met as pairs-of-thm
+use Rattle.bench.proofs.gauges_of.Symbol as gauges-of-def
+use Rattle.bench.proofs.gauges_of.Met as gauges-of-thm
+use Rattle.bench.proofs.totals_of.Symbol as bench-totals-def
+use Rattle.bench.proofs.totals_of.Met as bench-totals-thm
 use Rattle.runner.proofs.events.begun.Symbol as begun-def
 use Rattle.runner.proofs.events.begun.Met as begun-thm
 use Rattle.runner.proofs.events.run_events.Symbol as run-events-def
 use Rattle.runner.proofs.events.run_events.Met as run-events-thm
-use Rattle.runner.proofs.events.rested.Symbol as rested-def
-use Rattle.runner.proofs.events.rested.Met as rested-thm
+use Rattle.runner.proofs.events.totals_of.Symbol as totals-of-def
+use Rattle.runner.proofs.events.totals_of.Met as totals-of-thm
+use Rattle.bench_engine.proofs.looking.rest.Symbol as rest-def
+use Rattle.bench_engine.proofs.looking.rest.Met as rest-thm
 use Rattle.runner.proofs.results.finish.Symbol as finish-def
 use Rattle.runner.proofs.results.finish.Met as finish-thm
 use Rattle.runner.proofs.benches.run_hops.Key.{name as #run-hops}
@@ -41,12 +55,27 @@ use Rattle.runner.proofs.benches.run_hops.Code.Mir.{locals}
 -- the contracts of the functions called
 record Known {M : Type 1} (𝓤 : URA M) (H : Heap 𝓤) (A : Atoms 𝓤) (𝓣 : Tables 𝓤 H) : Type 2 where
   of-fresh : Triple 𝓤 (𝓣 .C fresh-def.name) (contract-related (fresh-callee 𝓤 H A))
-  of-topology-of : Triple 𝓤 (𝓣 .C topology-of-def.name) (contractOf (topology-of-callee 𝓤 H A))
+  of-bench-of : Triple 𝓤 (𝓣 .C bench-of-def.name) (contractOf (bench-of-callee 𝓤 H A))
   of-tables-of : Triple 𝓤 (𝓣 .C tables-of-def.name) (contractOf (tables-of-callee 𝓤 H A))
+  of-messages-of : Triple 𝓤 (𝓣 .C messages-of-def.name) (contractOf (messages-of-callee 𝓤 H A))
+  of-pairs-of : Triple 𝓤 (𝓣 .C pairs-of-def.name) (contractOf (pairs-of-callee 𝓤 H A))
+  of-gauges-of : Triple 𝓤 (𝓣 .C gauges-of-def.name) (contractOf (gauges-of-callee 𝓤 H A))
+  of-bench-totals : Triple 𝓤 (𝓣 .C bench-totals-def.name) (contractOf (bench-totals-callee 𝓤 H A))
   of-begun : Triple 𝓤 (𝓣 .C begun-def.name) (contractOf (begun-callee 𝓤 H A))
   of-run-events : Triple 𝓤 (𝓣 .C run-events-def.name) (contract-related (run-events-shown-callee 𝓤 H A))
-  of-rested : Triple 𝓤 (𝓣 .C rested-def.name) (contractOf (rested-callee 𝓤 H A))
+  of-totals-of : Triple 𝓤 (𝓣 .C totals-of-def.name) (contractOf (totals-of-callee 𝓤 H A))
+  of-rest : Triple 𝓤 (𝓣 .C rest-def.name) (contract-related (rest-shown-callee 𝓤 H A))
   of-finish : Triple 𝓤 (𝓣 .C finish-def.name) (contract-related (finish-shown-callee 𝓤 H A))
+
+-- a bench taken apart
+taken-apart : (b : Bench) (count : ℕ) {list : List ℕ} {hs hs′ : List Hop} {book book′ out out′ : List ℕ} {end : Progress}
+    {last : BenchLists}
+    → EventsRun list (begunWith count (b .totals)) (bench (begunWith count (b .totals) .totals) (b .tables) (b .messages) (b .pairs .grids)
+    (b .gauges)) hs book out
+    end last hs′ book′ out′
+    → EventsRun list (begunWith count (listsOf b .totals)) (listsOf b) hs book out end last hs′ book′ out′
+unfolding begunWith listsOf
+taken-apart b count run = run
 
 module _ {M : Type 1} (𝓤 : URA M) (H : Heap 𝓤) (A : Atoms 𝓤) (W : Given 𝓤 H A) (𝓣 : Tables 𝓤 H) (known : Known 𝓤 H A 𝓣) where
   abbrev self : RelationalDuty 𝓤 H A
@@ -57,83 +86,130 @@ module _ {M : Type 1} (𝓤 : URA M) (H : Heap 𝓤) (A : Atoms 𝓤) (W : Given
       let fm = fmOf 𝓤 H (W .laws) 𝓣 in
       let units : ℕ = h .0 in let groups : List ℕ = h .1 .0 in let count : ℕ = h .1 .1 .0 in let parents : List ℕ = h .1 .1 .1 .0 in
       let units-is = fit .0 in let groups-is = fit .1 .0 in let count-is = fit .1 .1 .0 in let parents-is = fit .1 .1 .1 .0 in
-      -- lent: the list at I, the messages at J, the rows at K, the hops at L, the book at N, the output at O
-      let l = h .1 .1 .1 .1 in let I : Loan = l .0 .0 in let list : List ℕ = l .0 .1 in let J : Loan = l .1 .0 .0 in let ms : List ℕ = l .1 .0 .1 in
-      let K : Loan = l .1 .1 .0 .0 in let rows : List (List ℕ) = l .1 .1 .0 .1 in let L : Loan = l .1 .1 .1 .0 .0 in let hs : List Hop = l .1 .1 .1 .0 .1 in
-      let N : Loan = l .1 .1 .1 .1 .0 .0 in let book : List ℕ = l .1 .1 .1 .1 .0 .1 in let O : Loan = l .1 .1 .1 .1 .1 .0 .0 in let out : List ℕ = l .1 .1 .1 .1 .1 .0 .1 in
-      let hops-room = rooms .1 .1 .1 .0 in
-      let messages-wt : WT (vint w64 (J .count)) = record { fits = rooms .1 .0 .0 .0 } in let rows-wt : WT (vint w64 (K .count)) = record { fits = rooms .1 .1 .0 .0 .0 } in
-      let hops-wt : WT (vint w64 (L .count)) = record { fits = hops-room .0 .0 } in let book-wt : WT (vint w64 (N .count)) = record { fits = rooms .1 .1 .1 .1 .0 .0 .0 } in
-      let out-wt : WT (vint w64 (O .count)) = record { fits = rooms .1 .1 .1 .1 .1 .0 .0 .0 } in
-      let lent-fits : length hs < 2 ^ 64 = subst (λ (k : ℕ). k < 2 ^ 64) (hops-room .1) (hops-room .0 .0) in
-      let fits : 106 < 2 ^ 64 = omega arith in let room : Room u32 106 = (fits, omega arith) in
+      -- lent: the list at I, the hops at L, the book at N, the output at O
+      let l = h .1 .1 .1 .1 in let I : Loan = l .0 .0 in let list : List ℕ = l .0 .1 in let L : Loan = l .1 .0 .0 in
+      let hs : List Hop = l .1 .0 .1 in
+      let N : Loan = l .1 .1 .0 .0 in let book : List ℕ = l .1 .1 .0 .1 in let O : Loan = l .1 .1 .1 .0 .0 in
+      let out : List ℕ = l .1 .1 .1 .0 .1 in
+      let hops-wt : WT (vint w64 (L .count)) = record { fits = rooms .1 .0 .0 .0 } in
+      let book-wt : WT (vint w64 (N .count)) = record { fits = rooms .1 .1 .0 .0 .0 } in
+      let out-wt : WT (vint w64 (O .count)) = record { fits = rooms .1 .1 .1 .0 .0 .0 } in
+      let tables-fit : 140 < 2 ^ 64 = omega arith in let messages-fit : 600 < 2 ^ 64 = omega arith in
+      let pairs-fit : 2 < 2 ^ 64 = omega arith in let gauges-fit : 32 < 2 ^ 64 = omega arith in
+      let tables-room : Room u32 140 = (tables-fit, omega arith) in let messages-room : Room u32 600 = (messages-fit, omega arith) in
+      let pairs-room : Room Grid 2 = (pairs-fit, omega arith) in let gauges-room : Room u16 32 = (gauges-fit, omega arith) in
       starts-related W self 𝓣 code.function h (suited W (self .passes) h fit rooms) (λ bs.
-      -- [list; messages; rows; hops; book; output; the locals, the last first]
-      sets ! (ptr-of ! 74 refl refl) (init ! 54 refl (tt, tt)) $ sets ! (slice-of ! 54 74 refl refl refl) (init ! 52 refl (tt, (tt, (hops-wt, tt)))) $
-      sets ! (ptr-of ! 72 refl refl) (init ! 50 refl (tt, tt)) $ sets ! (slice-of ! 50 72 refl refl refl) (init ! 48 refl (tt, (tt, (book-wt, tt)))) $
-      move ! (3 ∷ 4 ∷ []) $
-      -- [hops; book; list; messages; rows; output]
+      -- [list; hops; book; output; the locals, the last first]
+      sets ! (ptr-of ! 92 refl refl) (init ! 68 refl (tt, tt)) $ sets ! (slice-of ! 68 92 refl refl refl)
+      (init ! 66 refl (tt, (tt, (hops-wt, tt)))) $
+      sets ! (ptr-of ! 90 refl refl) (init ! 64 refl (tt, tt)) $ sets ! (slice-of ! 64 90 refl refl refl)
+      (init ! 62 refl (tt, (tt, (book-wt, tt)))) $
+      move ! (1 ∷ 2 ∷ []) $
+      -- [hops; book; list; output]
       calls-related ! fm (fresh-callee 𝓤 H A) (known .of-fresh) (units, (groups, (count, (parents, ((L, hs), ((N, book), tt))))))
       (units-is, (groups-is, (count-is, (parents-is, tt)))) tt refl
-      (var ! 88 refl & var ! 86 refl & var ! 84 refl & var ! 82 refl & var ! 52 refl & var ! 48 refl & no-more !) (λ fresh cleared begins fresh-is.
-      into ! (init ! 68 refl (stored W by-fresh fresh fresh-is .0)) $
-      calls ! fm (topology-of-callee 𝓤 H A) (known .of-topology-of) (fresh, tt) (fresh-is, tt) tt refl (var ! 68 refl & no-more !) (λ topology-is.
-      into ! (init ! 66 refl (stored W by-topology (fresh .bench .topology) topology-is .0)) $
-      calls ! fm (tables-of-callee 𝓤 H A) (known .of-tables-of) (fresh .bench .topology, tt) (topology-is, tt) tt refl (var ! 66 refl & no-more !) (λ tables-are.
-      let ts : List ℕ = tablesIn (fresh .bench .topology) in
-      into ! (init ! 46 refl (stored W (by-array u32 (by-uint w32) 106) ts tables-are .0)) $
-      sets ! (of-opd ! (var ! 46 refl)) (init ! 64 refl (stored W (by-array u32 (by-uint w32) 106) ts tables-are .0)) $
-      calls ! fm (begun-callee 𝓤 H A) (known .of-begun) (count, tt) (count-is, tt) tt refl (var ! 84 refl & no-more !) (λ start-is.
-      into ! (init ! 62 refl (stored W by-progress (begunIn count) start-is .0)) $
-      sets ! (addr ! (from ! (stop !))) (init ! 44 refl (tt, tt)) $
-      sets ! (agg ! (var ! 44 refl & lit ! tt & no-more !)) (init ! 42 refl (tt, (tt, (record { fits = fits }, tt)))) $
-      sets ! (ptr-of ! 78 refl refl) (init ! 40 refl (tt, tt)) $ sets ! (slice-of ! 40 78 refl refl refl) (init ! 38 refl (tt, (tt, (messages-wt, tt)))) $
-      sets ! (ptr-of ! 76 refl refl) (init ! 36 refl (tt, tt)) $ sets ! (slice-of ! 36 76 refl refl refl) (init ! 34 refl (tt, (tt, (rows-wt, tt)))) $
-      sets ! (ptr-of ! 74 refl refl) (init ! 32 refl (tt, tt)) $ sets ! (slice-of ! 32 74 refl refl refl) (init ! 30 refl (tt, (tt, (hops-wt, tt)))) $
-      sets ! (ptr-of ! 72 refl refl) (init ! 28 refl (tt, tt)) $ sets ! (slice-of ! 28 72 refl refl refl) (init ! 26 refl (tt, (tt, (book-wt, tt)))) $
-      sets ! (ptr-of ! 70 refl refl) (init ! 24 refl (tt, tt)) $ sets ! (slice-of ! 24 70 refl refl refl) (init ! 22 refl (tt, (tt, (out-wt, tt)))) $
-      lends-array ! tt (by-uint w32) tt 64 106 ts tables-are room refl (λ α γ. let T : Loan = array-loan 106 (bs .1 .1 .1 .1 .1 .1 .1 .1 .1 .1 .1 .1 .1 .0) α γ in
-      -- [tables; hops; book; list; messages; rows; output; the locals]
-      move ! (3 ∷ 0 ∷ 4 ∷ 5 ∷ 1 ∷ 2 ∷ 6 ∷ []) $
+      (var ! 102 refl & var ! 100 refl & var ! 98 refl & var ! 96 refl & var ! 66 refl & var ! 62 refl & no-more !)
+      (λ fresh cleared begins fresh-is.
+      into ! (init ! 86 refl (stored W by-fresh fresh fresh-is .0)) $
+      let b : Bench = fresh .bench in let t : Totals = b .totals in let ts : List ℕ = b .tables in let ms : List ℕ = b .messages in
+      let ps : List (List (List ℕ)) = b .pairs .grids in let gs : List ℕ = b .gauges in
+      calls ! fm (bench-of-callee 𝓤 H A) (known .of-bench-of) (fresh, tt) (fresh-is, tt) tt refl (var ! 86 refl & no-more !) (λ b-is.
+      into ! (init ! 84 refl (stored W by-bench b b-is .0)) $
+      calls ! fm (tables-of-callee 𝓤 H A) (known .of-tables-of) (b, tt) (b-is, tt) tt refl (var ! 84 refl & no-more !) (λ ts-are.
+      into ! (init ! 60 refl (stored W by-tables ts ts-are .0)) $ sets ! (of-opd ! (var ! 60 refl))
+      (init ! 82 refl (stored W by-tables ts ts-are .0)) $
+      calls ! fm (messages-of-callee 𝓤 H A) (known .of-messages-of) (b, tt) (b-is, tt) tt refl (var ! 84 refl & no-more !) (λ ms-are.
+      into ! (init ! 58 refl (stored W by-messages ms ms-are .0)) $
+      sets ! (of-opd ! (var ! 58 refl)) (init ! 80 refl (stored W by-messages ms ms-are .0)) $
+      calls ! fm (pairs-of-callee 𝓤 H A) (known .of-pairs-of) (b, tt) (b-is, tt) tt refl (var ! 84 refl & no-more !) (λ ps-are.
+      into ! (init ! 56 refl (stored W by-pairs ps ps-are .0)) $ sets ! (of-opd ! (var ! 56 refl))
+      (init ! 78 refl (stored W by-pairs ps ps-are .0)) $
+      calls ! fm (gauges-of-callee 𝓤 H A) (known .of-gauges-of) (b, tt) (b-is, tt) tt refl (var ! 84 refl & no-more !) (λ gs-are.
+      into ! (init ! 54 refl (stored W by-row gs gs-are .0)) $ sets ! (of-opd ! (var ! 54 refl))
+      (init ! 76 refl (stored W by-row gs gs-are .0)) $
+      calls ! fm (bench-totals-callee 𝓤 H A) (known .of-bench-totals) (b, tt) (b-is, tt) tt refl (var ! 84 refl & no-more !) (λ t-is.
+      into ! (init ! 52 refl (stored W by-counts t t-is .0)) $
+      calls ! fm (begun-callee 𝓤 H A) (known .of-begun) (count, (t, tt)) (count-is, (t-is, tt)) tt refl
+      (var ! 98 refl & var ! 52 refl & no-more !) (λ start-is.
+      into ! (init ! 74 refl (stored W by-progress (begunWith count t) start-is .0)) $
+      sets ! (addr ! (from ! (stop !))) (init ! 50 refl (tt, tt)) $
+      sets ! (agg ! (var ! 50 refl & lit ! tt & no-more !)) (init ! 48 refl (tt, (tt, (record { fits = tables-fit }, tt)))) $
+      sets ! (addr ! (from ! (stop !))) (init ! 46 refl (tt, tt)) $
+      sets ! (agg ! (var ! 46 refl & lit ! tt & no-more !)) (init ! 44 refl (tt, (tt, (record { fits = messages-fit }, tt)))) $
+      sets ! (addr ! (from ! (stop !))) (init ! 42 refl (tt, tt)) $
+      sets ! (agg ! (var ! 42 refl & lit ! tt & no-more !)) (init ! 40 refl (tt, (tt, (record { fits = pairs-fit }, tt)))) $
+      sets ! (addr ! (from ! (stop !))) (init ! 38 refl (tt, tt)) $
+      sets ! (agg ! (var ! 38 refl & lit ! tt & no-more !)) (init ! 36 refl (tt, (tt, (record { fits = gauges-fit }, tt)))) $
+      sets ! (ptr-of ! 92 refl refl) (init ! 34 refl (tt, tt)) $ sets ! (slice-of ! 34 92 refl refl refl)
+      (init ! 32 refl (tt, (tt, (hops-wt, tt)))) $
+      sets ! (ptr-of ! 90 refl refl) (init ! 30 refl (tt, tt)) $ sets ! (slice-of ! 30 90 refl refl refl)
+      (init ! 28 refl (tt, (tt, (book-wt, tt)))) $
+      sets ! (ptr-of ! 88 refl refl) (init ! 26 refl (tt, tt)) $ sets ! (slice-of ! 26 88 refl refl refl)
+      (init ! 24 refl (tt, (tt, (out-wt, tt)))) $
+      lends-array ! tt (by-uint w32) tt 82 140 ts ts-are tables-room refl
+      (λ α γ. let T : Loan = array-loan 140 (bs .1 .1 .1 .1 .1 .1 .1 .1 .1 .1 .1 .0) α γ in
+      lends-array ! tt (by-uint w32) tt 81 600 ms ms-are messages-room refl
+      (λ α γ. let J : Loan = array-loan 600 (bs .1 .1 .1 .1 .1 .1 .1 .1 .1 .1 .1 .1 .0) α γ in
+      lends-array ! tt by-grid tt 80 2 ps ps-are pairs-room refl
+      (λ α γ. let K : Loan = array-loan 2 (bs .1 .1 .1 .1 .1 .1 .1 .1 .1 .1 .1 .1 .1 .0) α γ in
+      lends-array ! tt (by-uint w16) tt 79 32 gs gs-are gauges-room refl
+      (λ α γ. let Q : Loan = array-loan 32 (bs .1 .1 .1 .1 .1 .1 .1 .1 .1 .1 .1 .1 .1 .1 .0) α γ in
+      -- [gauges; pairs; messages; tables; hops; book; list; output; the locals]
+      move ! (6 ∷ 3 ∷ 2 ∷ 1 ∷ 0 ∷ 4 ∷ 5 ∷ []) $
       calls-related ! fm (run-events-shown-callee 𝓤 H A) (known .of-run-events)
-      (begunIn count, ((I, list), ((T, ts), ((J, ms), ((K, rows), ((L, cleared .0), ((N, cleared .1 .0), ((O, out), tt)))))))) (start-is, tt) tt refl
-      (var ! 63 refl & var ! 81 refl & var ! 43 refl & var ! 39 refl & var ! 35 refl & var ! 31 refl & var ! 27 refl & var ! 23 refl & no-more !) (λ end ran runs end-is.
-      into ! (init ! 61 refl (stored W by-progress end end-is .0)) $
-      -- [list; tables; messages; rows; hops; book; output; the locals]
-      move ! (1 ∷ []) $ array-back ! tt (by-uint w32) 64 ts refl (λ _.
-      -- [list; messages; rows; hops; book; output; the locals]
-      sets ! (equals (ap (vint w64) (hops-room .1)) (of-opd ! (len-of ! 74 refl refl))) (init ! 58 refl (tt, record { fits = lent-fits })) $
-      calls ! fm (rested-callee 𝓤 H A) (known .of-rested) (end, (length hs, tt)) (end-is, ((refl, lent-fits), tt)) tt refl (var ! 60 refl & var ! 58 refl & no-more !) (λ rest-is.
-      let rest : RestReply = restReply (benchIn (end .totals) [] [] []) (length hs) in
-      into ! (init ! 56 refl (stored W by-rest-reply rest rest-is .0)) $
-      sets ! (addr ! (from ! (stop !))) (init ! 20 refl (tt, tt)) $
-      sets ! (agg ! (var ! 20 refl & lit ! tt & no-more !)) (init ! 18 refl (tt, (tt, (record { fits = fits }, tt)))) $
-      sets ! (ptr-of ! 76 refl refl) (init ! 16 refl (tt, tt)) $ sets ! (slice-of ! 16 76 refl refl refl) (init ! 14 refl (tt, (tt, (rows-wt, tt)))) $
-      sets ! (ptr-of ! 72 refl refl) (init ! 12 refl (tt, tt)) $ sets ! (slice-of ! 12 72 refl refl refl) (init ! 10 refl (tt, (tt, (book-wt, tt)))) $
-      sets ! (ptr-of ! 70 refl refl) (init ! 8 refl (tt, tt)) $ sets ! (slice-of ! 8 70 refl refl refl) (init ! 6 refl (tt, (tt, (out-wt, tt)))) $
-      lends-array ! tt (by-uint w32) tt 64 106 ts tables-are room refl (λ α γ. let T : Loan = array-loan 106 (bs .1 .1 .1 .1 .1 .1 .1 .1 .1 .1 .1 .1 .1 .0) α γ in
-      -- [tables; list; messages; rows; hops; book; output; the locals]
-      move ! (0 ∷ 3 ∷ 5 ∷ 6 ∷ []) $
-      calls-related ! fm (finish-shown-callee 𝓤 H A) (known .of-finish) (end, (rest, ((T, ts), ((K, ran .1 .0), ((N, ran .1 .1 .1 .0), ((O, ran .1 .1 .1 .1 .0), tt)))))) (end-is, (rest-is, tt)) tt refl
-      (var ! 61 refl & var ! 57 refl & var ! 19 refl & var ! 15 refl & var ! 11 refl & var ! 7 refl & no-more !) (λ r left finishes r-is.
-      into ! (init ! 91 refl (stored W by-totals r r-is .0)) $
-      -- [tables; rows; book; output; list; messages; hops; the locals]
-      array-back ! tt (by-uint w32) 64 ts refl (λ _.
-      returns ! (look ! 90 refl) $ move ! (3 ∷ 4 ∷ 0 ∷ 5 ∷ 1 ∷ 2 ∷ []) $
-      leaves ! (‵ (Views u16 I list) ∷ ‵ (Holds u16 J (ran .0)) ∷ ‵ (Holds Row K (ran .1 .0)) ∷ ‵ (Holds R L (ran .1 .1 .0)) ∷ ‵ (Holds u16 N (ran .1 .1 .1 .0)) ∷ ‵ (Holds u8 O (left .0)) ∷ [])
-      locals bs (full locals _) tt $
-      concludes ! self h r (ran .0, (ran .1 .0, (ran .1 .1 .0, (ran .1 .1 .1 .0, (left .0, tt))))) r-is record {
-        fresh = fresh;
+      (begunWith count t, ((I, list), ((T, ts), ((J, ms), ((K, ps), ((Q, gs), ((L, cleared .0), ((N, cleared .1 .0), ((O, out), tt)))))))))
+      (start-is, tt) tt refl
+      (var ! 78 refl & var ! 98 refl & var ! 52 refl & var ! 48 refl & var ! 44 refl & var ! 40 refl & var ! 36 refl & var ! 32 refl & var
+      ! 28 refl & no-more !)
+      (λ end ran runs end-is.
+      into ! (init ! 76 refl (stored W by-progress end end-is .0)) $
+      let ms′ : List ℕ = ran .0 in let ps′ : List (List (List ℕ)) = ran .1 .0 in let gs′ : List ℕ = ran .1 .1 .0 in
+      let hs′ : List Hop = ran .1 .1 .1 .0 in let book′ : List ℕ = ran .1 .1 .1 .1 .0 in let out′ : List ℕ = ran .1 .1 .1 .1 .1 .0 in
+      -- [list; tables; messages; pairs; gauges; hops; book; output; the locals]
+      calls ! fm (totals-of-callee 𝓤 H A) (known .of-totals-of) (end, tt) (end-is, tt) tt refl (var ! 76 refl & no-more !) (λ t′-is.
+      into ! (store ! 56 refl (stored W by-counts (end .totals) t′-is .0)) $
+      sets ! (ptr-of ! 96 refl refl) (init ! 26 refl (tt, tt)) $ sets ! (slice-of ! 26 96 refl refl refl)
+      (init ! 24 refl (tt, (tt, (hops-wt, tt)))) $
+      move ! (5 ∷ []) $
+      -- [hops; list; tables; messages; pairs; gauges; book; output]
+      calls-related ! fm (rest-shown-callee 𝓤 H A) (known .of-rest) (end .totals, ((L, hs′), tt)) (t′-is, tt) tt refl
+      (var ! 56 refl & var ! 24 refl & no-more !)
+      (λ rest _ rests rest-is.
+      into ! (init ! 74 refl (stored W by-rest-reply rest rest-is .0)) $
+      sets ! (addr ! (from ! (stop !))) (init ! 22 refl (tt, tt)) $
+      sets ! (agg ! (var ! 22 refl & lit ! tt & no-more !)) (init ! 20 refl (tt, (tt, (record { fits = tables-fit }, tt)))) $
+      sets ! (addr ! (from ! (stop !))) (init ! 18 refl (tt, tt)) $
+      sets ! (agg ! (var ! 18 refl & lit ! tt & no-more !)) (init ! 16 refl (tt, (tt, (record { fits = gauges-fit }, tt)))) $
+      sets ! (ptr-of ! 94 refl refl) (init ! 14 refl (tt, tt)) $ sets ! (slice-of ! 14 94 refl refl refl)
+      (init ! 12 refl (tt, (tt, (book-wt, tt)))) $
+      sets ! (ptr-of ! 92 refl refl) (init ! 10 refl (tt, tt)) $ sets ! (slice-of ! 10 92 refl refl refl)
+      (init ! 8 refl (tt, (tt, (out-wt, tt)))) $
+      move ! (2 ∷ 5 ∷ 6 ∷ 7 ∷ []) $
+      -- [tables; gauges; book; output; hops; list; messages; pairs]
+      calls-related ! fm (finish-shown-callee 𝓤 H A) (known .of-finish) (end, (rest, ((T, ts), ((Q, gs′), ((N, book′), ((O, out′), tt))))))
+      (end-is, (rest-is, tt)) tt refl
+      (var ! 76 refl & var ! 74 refl & var ! 20 refl & var ! 16 refl & var ! 12 refl & var ! 8 refl & no-more !) (λ r left finishes r-is.
+      into ! (init ! 108 refl (stored W by-totals r r-is .0)) $
+      array-back ! tt (by-uint w32) 85 ts refl (λ _. array-back ! tt (by-uint w16) 78 gs′ refl (λ _.
+      move ! (4 ∷ []) $ array-back ! tt (by-uint w32) 81 ms′ refl (λ _. move ! (4 ∷ []) $ array-back ! tt by-grid 78 ps′ refl (λ _.
+      -- [book; output; hops; list]
+      move ! (3 ∷ 2 ∷ []) $ returns ! (look ! 104 refl) $
+      leaves ! (‵ (Views u16 I list) ∷ ‵ (Holds R L hs′) ∷ ‵ (Holds u16 N book′) ∷ ‵ (Holds u8 O (left .0)) ∷ []) locals bs (full locals _)
+      tt $
+      concludes ! self h r (hs′, (book′, (left .0, tt))) r-is record {
+        reply = fresh .reply;
+        first = listsOf b;
         hops-fresh = cleared .0;
         book-fresh = cleared .1 .0;
         begins = begins;
         end = end;
-        out-events = ran .1 .1 .1 .1 .0;
-        runs = runs;
+        last = bench (end .totals) ts ms′ ps′ gs′;
+        out-events = out′;
+        runs = taken-apart b count runs;
         rest = rest;
-        rests = refl;
-        finishes = finishes;
-      }))))))))))))
+        rests = rests ts ms′ ps′ gs′;
+        finishes = finishes ms′ ps′;
+      })))))))))))))))))))))
 
 pub run-hops-spec : {M : Type 1} → stated.statement M
 unfolding code.routine tablesOf
@@ -142,11 +218,16 @@ run-hops-spec 𝓤 H 𝓜 𝓖 𝓡 =
     proved-own-related 𝓤 H 𝓜 𝓖 𝓡 code.env (run-hops-callee 𝓤 H A) tt (λ κs qs. refl) (λ κs qs a g. factI 𝓤 (Unit {0}) _ tt)
     (λ κs qs a g r ws _ said. factI 𝓤 _ (emp 𝓤) said)
     #run-hops code.function (code.unfolded 𝓤 H 𝓜 𝓡) (λ h fit rooms _. walk 𝓤 H A (givenOf 𝓤 H 𝓜 𝓖) (own-tables 𝓤 H 𝓜 𝓖 𝓡 code.env) record {
-      of-fresh = cited 𝓤 H _ 𝓜 𝓡 code.env fresh-def.name _ code.calls-relay·Bench·fresh (fresh-thm.met 𝓤 H 𝓜 𝓖 𝓡);
-      of-topology-of = cited 𝓤 H _ 𝓜 𝓡 code.env topology-of-def.name _ code.calls-runner·benches·topology-of (topology-of-thm.met 𝓤 H 𝓜 𝓖 𝓡);
-      of-tables-of = cited 𝓤 H _ 𝓜 𝓡 code.env tables-of-def.name _ code.calls-in-place·whole·tables-of (tables-of-thm.met 𝓤 H 𝓜 𝓖 𝓡);
+      of-fresh = cited 𝓤 H _ 𝓜 𝓡 code.env fresh-def.name _ code.calls-bench·Bench·fresh (fresh-thm.met 𝓤 H 𝓜 𝓖 𝓡);
+      of-bench-of = cited 𝓤 H _ 𝓜 𝓡 code.env bench-of-def.name _ code.calls-runner·benches·bench-of (bench-of-thm.met 𝓤 H 𝓜 𝓖 𝓡);
+      of-tables-of = cited 𝓤 H _ 𝓜 𝓡 code.env tables-of-def.name _ code.calls-bench·tables-of (tables-of-thm.met 𝓤 H 𝓜 𝓖 𝓡);
+      of-messages-of = cited 𝓤 H _ 𝓜 𝓡 code.env messages-of-def.name _ code.calls-bench·messages-of (messages-of-thm.met 𝓤 H 𝓜 𝓖 𝓡);
+      of-pairs-of = cited 𝓤 H _ 𝓜 𝓡 code.env pairs-of-def.name _ code.calls-bench·pairs-of (pairs-of-thm.met 𝓤 H 𝓜 𝓖 𝓡);
+      of-gauges-of = cited 𝓤 H _ 𝓜 𝓡 code.env gauges-of-def.name _ code.calls-bench·gauges-of (gauges-of-thm.met 𝓤 H 𝓜 𝓖 𝓡);
+      of-bench-totals = cited 𝓤 H _ 𝓜 𝓡 code.env bench-totals-def.name _ code.calls-bench·totals-of (bench-totals-thm.met 𝓤 H 𝓜 𝓖 𝓡);
       of-begun = cited 𝓤 H _ 𝓜 𝓡 code.env begun-def.name _ code.calls-runner·events·begun (begun-thm.met 𝓤 H 𝓜 𝓖 𝓡);
       of-run-events = cited 𝓤 H _ 𝓜 𝓡 code.env run-events-def.name _ code.calls-runner·events·run-events (run-events-thm.met 𝓤 H 𝓜 𝓖 𝓡);
-      of-rested = cited 𝓤 H _ 𝓜 𝓡 code.env rested-def.name _ code.calls-runner·events·rested (rested-thm.met 𝓤 H 𝓜 𝓖 𝓡);
+      of-totals-of = cited 𝓤 H _ 𝓜 𝓡 code.env totals-of-def.name _ code.calls-runner·events·totals-of (totals-of-thm.met 𝓤 H 𝓜 𝓖 𝓡);
+      of-rest = cited 𝓤 H _ 𝓜 𝓡 code.env rest-def.name _ code.calls-bench-engine·looking·rest (rest-thm.met 𝓤 H 𝓜 𝓖 𝓡);
       of-finish = cited 𝓤 H _ 𝓜 𝓡 code.env finish-def.name _ code.calls-runner·results·finish (finish-thm.met 𝓤 H 𝓜 𝓖 𝓡);
     } h fit rooms)

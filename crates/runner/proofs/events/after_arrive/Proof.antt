@@ -1,6 +1,6 @@
 -- What is taken and the refusal are the rule's.
 use borrow.Author.Needs.{needs}
-use Rattle.runner.specs.Steps.{afterArriveIn}
+use Rattle.runner.specs.Steps.{afterArrive}
 use Rattle.runner.proofs.events.after_arrive.Statement.{statement}
 use Rattle.runner.proofs.events.after_arrive.Tie as tie
 
@@ -14,7 +14,7 @@ arrive-refusal-requires : tie.Need-arrive-refusal-requires
 arrive-refusal-requires c κs = search needs
 
 returns : tie.Need-returns
-unfolding afterArriveIn
+unfolding afterArrive
 returns c = rw (c .before .plus .ensures, c .before .before .carried-by .ensures, c .arrive-refusal .ensures)
 
 pub after-arrive-spec : {M : Type 1} → statement M

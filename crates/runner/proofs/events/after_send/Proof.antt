@@ -1,6 +1,6 @@
 -- The refusal is the rule's.
 use borrow.Author.Needs.{needs}
-use Rattle.runner.specs.Steps.{afterSendIn}
+use Rattle.runner.specs.Steps.{afterSend}
 use Rattle.runner.proofs.events.after_send.Statement.{statement}
 use Rattle.runner.proofs.events.after_send.Tie as tie
 
@@ -8,7 +8,7 @@ send-refusal-requires : tie.Need-send-refusal-requires
 send-refusal-requires c κs = search needs
 
 returns : tie.Need-returns
-unfolding afterSendIn
+unfolding afterSend
 returns c = rw (c .send-refusal .ensures)
 
 pub after-send-spec : {M : Type 1} → statement M

@@ -1,6 +1,6 @@
 -- In each case the rule computes the number.
 use borrow.Author.Needs.{needs}
-use Rattle.relay.specs.Replies.{arriveAnswer}
+use Rattle.bench_promises.specs.Replies.{arriveAnswer}
 use Rattle.runner.specs.Steps.{refusalOf}
 use Rattle.runner.proofs.events.arrive_refusal.Statement.{statement}
 use Rattle.runner.proofs.events.arrive_refusal.Tie as tie

@@ -1,11 +1,8 @@
 -- The line is the rule's.
 use borrow.Author.Needs.{needs}
-use Rattle.runner.specs.Steps.{begunIn}
+use Rattle.runner.specs.Steps.{begunWith}
 use Rattle.runner.proofs.events.begun.Statement.{statement}
 use Rattle.runner.proofs.events.begun.Tie as tie
-
-no-totals-requires : tie.Need-no-totals-requires
-no-totals-requires c κs = search needs
 
 cast-plus : tie.Need-cast-plus
 cast-plus c = search needs
@@ -14,8 +11,8 @@ plus-requires : tie.Need-plus-requires
 plus-requires c κs = search needs
 
 returns : tie.Need-returns
-unfolding begunIn
-returns c = rw (c .plus .ensures, c .before .no-totals .ensures)
+unfolding begunWith
+returns c = rw (c .plus .ensures)
 
 pub begun-spec : {M : Type 1} → statement M
-begun-spec = tie.close (tie.spec no-totals-requires cast-plus plus-requires returns)
+begun-spec = tie.close (tie.spec cast-plus plus-requires returns)

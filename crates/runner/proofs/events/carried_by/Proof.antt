@@ -5,10 +5,10 @@ use mathlib.Core.List.{[], _∷_}
 use types.Run.{OneOf, miss}
 use denote.Enum.Declared.{tagOf}
 use Rattle.model.specs.Demand3.{carried}
-use Rattle.relay.specs.Replies.{arriveAnswer}
-use Rattle.relay.specs.declared.replies.ArriveReply.{ArriveReply}
-use Rattle.relay.specs.declared.replies.ArriveReply.the-variants.{Taken, Held, Repeat, ListTooShort, NotMade}
-use Rattle.relay.proofs.replies.ArriveReply.{the-type}
+use Rattle.bench_promises.specs.Replies.{arriveAnswer}
+use Rattle.bench_promises.specs.declared.replies.ArriveReply.{ArriveReply}
+use Rattle.bench_promises.specs.declared.replies.ArriveReply.the-variants.{Taken, Held, Repeat, ListTooShort, NotMade}
+use Rattle.bench_promises.proofs.replies.ArriveReply.{the-type}
 use Rattle.runner.proofs.events.carried_by.Statement.{statement}
 use Rattle.runner.proofs.events.carried_by.Tie as tie
 

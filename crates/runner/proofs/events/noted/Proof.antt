@@ -3,7 +3,7 @@ use borrow.Author.Needs.{needs}
 use borrow.Author.Tests.{ne-eqb, eq-eqb}
 use Rattle.text.proofs.Written.{written-none}
 use Rattle.benchfile.specs.File.{ended}
-use Rattle.runner.specs.Steps.{refusalLines, advancedIn}
+use Rattle.runner.specs.Steps.{refusalLines, advanced}
 use Rattle.runner.proofs.events.noted.Statement.{statement}
 use Rattle.runner.proofs.events.noted.Tie as tie
 
@@ -23,7 +23,7 @@ same-length : tie.Need-same-length
 same-length c = search needs
 
 returns : tie.Need-returns
-unfolding refusalLines ended advancedIn
+unfolding refusalLines ended advanced
 returns c =
     let call = c .before .before in
     let test = call .before .before .before in
@@ -33,7 +33,7 @@ returns c =
     }
 
 returns-2 : tie.Need-returns-2
-unfolding refusalLines ended advancedIn
+unfolding refusalLines ended advanced
 returns-2 c =
     record {
       prints = rw (eq-eqb _ 0 (c .if1 .left)) (written-none _ _);

@@ -1,30 +1,26 @@
--- `events::run_event` meets its contract: a walk of its MIR, by hand. Functions by value take the progress and the event apart; `send` and `arrive` of in_place are lent the lists;
--- what they leave is one of the two ways to run an event (Stages.antt).
-use Rattle.walks.proofs.Prelude.{refl, [], _∷_, List, ℕ, _-_, length, URA, w64, WT, vint, emp, Heap, Tables, Atoms, fmOf, factI, givenOf, tablesOf, Given, ‵, _$_, !, look, init}
-use Rattle.walks.proofs.Prelude.{no-more, returns, returns-within, u16, Triple, cited, stored, Loan, Holds, Views, Handed, Fit, contractOf, calls, contract-related}
-use Rattle.walks.proofs.Prelude.{Rooms, suited, RelationalDuty, Goes-related, starts-related, duty-related, Done-related, concludes, own-tables, proved-own-related, var}
-use Rattle.walks.proofs.Prelude.{ptr-of, slice-of, _&_, sets, into, empty, holds, leaves, if-then}
+-- `events::run_event` meets its contract: a walk of its MIR, by hand. Functions by value take the progress and the event apart; `send` and
+-- `arrive` of bench_engine are lent the lists; what they promise is one of the two ways to run an event.
+use Rattle.hand_proofs.proofs.Prelude.{refl, [], _∷_, List, ℕ, _-_, URA, w64, WT, vint, emp, Heap, Tables, Atoms, fmOf, factI, givenOf}
+use Rattle.hand_proofs.proofs.Prelude.{tablesOf, Given, ‵, _$_, !, move, look, init, no-more, returns, returns-within, u16, Triple, cited}
+use Rattle.hand_proofs.proofs.Prelude.{stored, Loan, Holds, Views, Handed, Fit, contractOf, calls, contract-related, calls-related, Rooms}
+use Rattle.hand_proofs.proofs.Prelude.{suited, RelationalDuty, Goes-related, starts-related, duty-related, Done-related, concludes}
+use Rattle.hand_proofs.proofs.Prelude.{own-tables, proved-own-related, var, ptr-of, slice-of, _&_, sets, into, empty, holds, leaves}
+use Rattle.hand_proofs.proofs.Prelude.{if-then}
 use denote.Builtin.{u32}
 use Rattle.model.specs.declared.Hop.{Hop}
 use Rattle.hops.proofs.Places.{came-true, came-false}
 use Rattle.hops.proofs.Records.{R}
-use Rattle.relay.specs.declared.Bench.{Bench}
-use Rattle.relay.specs.Machine.{sendRefusal, sendResult, sendHops, arriveResult, arriveHops, arriveBook}
-use Rattle.in_place.specs.declared.Totals.{Totals}
-use Rattle.in_place.specs.declared.Sent.{Sent}
-use Rattle.in_place.specs.declared.Arrived.{Arrived}
-use Rattle.in_place.specs.InPlace.{benchIn, arrivedIn, arriveRows, sentIn, sendMessages, sendRows}
-use Rattle.in_place.proofs.Known.{Row, by-totals, by-sent, by-arrived, send-callee}
-use Rattle.in_place.proofs.sending.send.Symbol as send-def
-use Rattle.in_place.proofs.sending.send.Met as send-thm
-use Rattle.in_place.proofs.arriving.arrive.Symbol as arrive-def
-use Rattle.in_place.proofs.arriving.arrive.Met as arrive-thm
+use Rattle.bench_promises.specs.declared.Totals.{Totals}
+use Rattle.bench_engine.proofs.Known.{Grid, by-totals, by-sent, by-arrived, send-callee, arrive-callee}
+use Rattle.bench_engine.proofs.sending.send.Symbol as send-def
+use Rattle.bench_engine.proofs.sending.send.Met as send-thm
+use Rattle.bench_engine.proofs.arriving.arrive.Symbol as arrive-def
+use Rattle.bench_engine.proofs.arriving.arrive.Met as arrive-thm
 use Rattle.runner.specs.declared.events.Event.{Event}
 use Rattle.runner.specs.declared.events.Progress.{Progress}
-use Rattle.runner.specs.Steps.{isSend, afterSendIn, afterArriveIn}
-use Rattle.runner.proofs.Stages.{event-sent, event-arrived}
-use Rattle.runner.proofs.Known.{by-progress, totals-of-callee, is-send-callee, source-callee, second-callee, third-callee, arrive-shown-callee, after-send-callee}
-use Rattle.runner.proofs.Known.{after-arrive-callee, run-event-callee}
+use Rattle.runner.specs.Steps.{isSend, afterSend, afterArrive, sent, arrived}
+use Rattle.runner.proofs.Known.{by-progress, totals-of-callee, is-send-callee, source-callee, second-callee, third-callee}
+use Rattle.runner.proofs.Known.{after-send-callee, after-arrive-callee, run-event-callee}
 use Rattle.runner.proofs.events.totals_of.Symbol as totals-of-def
 use Rattle.runner.proofs.events.totals_of.Met as totals-of-thm
 use Rattle.runner.proofs.events.second.Symbol as second-def
@@ -51,9 +47,9 @@ record Known {M : Type 1} (𝓤 : URA M) (H : Heap 𝓤) (A : Atoms 𝓤) (𝓣 
   of-is-send : Triple 𝓤 (𝓣 .C is-send-def.name) (contractOf (is-send-callee 𝓤 H A))
   of-source : Triple 𝓤 (𝓣 .C source-def.name) (contractOf (source-callee 𝓤 H A))
   of-third : Triple 𝓤 (𝓣 .C third-def.name) (contractOf (third-callee 𝓤 H A))
-  of-send : Triple 𝓤 (𝓣 .C send-def.name) (contractOf (send-callee 𝓤 H A))
+  of-send : Triple 𝓤 (𝓣 .C send-def.name) (contract-related (send-callee 𝓤 H A))
   of-after-send : Triple 𝓤 (𝓣 .C after-send-def.name) (contractOf (after-send-callee 𝓤 H A))
-  of-arrive : Triple 𝓤 (𝓣 .C arrive-def.name) (contractOf (arrive-shown-callee 𝓤 H A))
+  of-arrive : Triple 𝓤 (𝓣 .C arrive-def.name) (contract-related (arrive-callee 𝓤 H A))
   of-after-arrive : Triple 𝓤 (𝓣 .C after-arrive-def.name) (contractOf (after-arrive-callee 𝓤 H A))
 
 module _ {M : Type 1} (𝓤 : URA M) (H : Heap 𝓤) (A : Atoms 𝓤) (W : Given 𝓤 H A) (𝓣 : Tables 𝓤 H) (known : Known 𝓤 H A 𝓣) where
@@ -61,59 +57,91 @@ module _ {M : Type 1} (𝓤 : URA M) (H : Heap 𝓤) (A : Atoms 𝓤) (W : Given
   self = duty-related (run-event-callee 𝓤 H A)
 
   walk : (h : Handed (self .passes)) → Fit (self .passes) h → Rooms (self .passes) h → Goes-related self 𝓣 code.function h
+  unfolding afterSend afterArrive
   walk h fit rooms =
       let fm = fmOf 𝓤 H (W .laws) 𝓣 in let p : Progress = h .0 in let e : Event = h .1 .0 in let t : Totals = p .totals in
-      let I : Loan = h .1 .1 .0 .0 in let ts : List ℕ = h .1 .1 .0 .1 in let J : Loan = h .1 .1 .1 .0 .0 in let ms : List ℕ = h .1 .1 .1 .0 .1 in
-      let K : Loan = h .1 .1 .1 .1 .0 .0 in let rows : List (List ℕ) = h .1 .1 .1 .1 .0 .1 in
-      let L : Loan = h .1 .1 .1 .1 .1 .0 .0 in let hs : List Hop = h .1 .1 .1 .1 .1 .0 .1 in
-      let N : Loan = h .1 .1 .1 .1 .1 .1 .0 .0 in let book : List ℕ = h .1 .1 .1 .1 .1 .1 .0 .1 in
+      -- lent: the tables at I, the messages at J, the pairs at K, the gauges at Q, the hops at L, the book at N
+      let l = h .1 .1 in let I : Loan = l .0 .0 in let ts : List ℕ = l .0 .1 in let J : Loan = l .1 .0 .0 in let ms : List ℕ = l .1 .0 .1 in
+      let K : Loan = l .1 .1 .0 .0 in let ps : List (List (List ℕ)) = l .1 .1 .0 .1 in let Q : Loan = l .1 .1 .1 .0 .0 in
+      let gs : List ℕ = l .1 .1 .1 .0 .1 in
+      let L : Loan = l .1 .1 .1 .1 .0 .0 in let hs : List Hop = l .1 .1 .1 .1 .0 .1 in
+      let N : Loan = l .1 .1 .1 .1 .1 .0 .0 in let book : List ℕ = l .1 .1 .1 .1 .1 .0 .1 in
       let p-is = fit .0 in let e-is = fit .1 .0 in
-      let messages-wt : WT (vint w64 (J .count)) = record { fits = rooms .1 .0 .0 .0 } in let rows-wt : WT (vint w64 (K .count)) = record { fits = rooms .1 .1 .0 .0 .0 } in
-      let hops-wt : WT (vint w64 (L .count)) = record { fits = rooms .1 .1 .1 .0 .0 .0 } in let book-wt : WT (vint w64 (N .count)) = record { fits = rooms .1 .1 .1 .1 .0 .0 .0 } in
+      let messages-wt : WT (vint w64 (J .count)) = record { fits = rooms .1 .0 .0 .0 } in
+      let pairs-wt : WT (vint w64 (K .count)) = record { fits = rooms .1 .1 .0 .0 .0 } in
+      let gauges-wt : WT (vint w64 (Q .count)) = record { fits = rooms .1 .1 .1 .0 .0 .0 } in
+      let hops-wt : WT (vint w64 (L .count)) = record { fits = rooms .1 .1 .1 .1 .0 .0 .0 } in
+      let book-wt : WT (vint w64 (N .count)) = record { fits = rooms .1 .1 .1 .1 .1 .0 .0 .0 } in
       let s : ℕ = e .first - 1 in let g : ℕ = e .second in let w : ℕ = e .third in
-      let number : ℕ = sendRefusal (benchIn t ts [] []) s g (length hs) in let sent : Sent = sentIn (sendResult (benchIn t ts [] rows) s g w hs) in
-      let b : Bench = benchIn t ts ms rows in let arrived : Arrived = arrivedIn (arriveResult b g hs book) in
       starts-related W self 𝓣 code.function h (suited W (self .passes) h fit rooms) (λ bs.
-      -- [tables; messages; rows; hops; book; the locals, the last first]
-      calls ! fm (totals-of-callee 𝓤 H A) (known .of-totals-of) (p, tt) (p-is, tt) tt refl (var ! 59 refl & no-more !) (λ t-is. into ! (init ! 45 refl (stored W by-totals t t-is .0)) $
-      calls ! fm (second-callee 𝓤 H A) (known .of-second) (e, tt) (e-is, tt) tt refl (var ! 57 refl & no-more !) (λ second-is.
-      into ! (init ! 43 refl (tt, record { fits = second-is .1 })) $
-      calls ! fm (is-send-callee 𝓤 H A) (known .of-is-send) (e, tt) (e-is, tt) tt refl (var ! 57 refl & no-more !) (λ _. into ! (init ! 37 refl (tt, tt)) $
-      if-then ! (var ! 37 refl)
-      (λ sends.
-      calls ! fm (source-callee 𝓤 H A) (known .of-source) (e, tt) (e-is, tt) tt refl (var ! 57 refl & no-more !) (λ source-is.
-      into ! (init ! 35 refl (tt, record { fits = source-is .1 })) $
-      calls ! fm (third-callee 𝓤 H A) (known .of-third) (e, tt) (e-is, tt) tt refl (var ! 57 refl & no-more !) (λ third-is.
-      into ! (init ! 33 refl (tt, record { fits = third-is .1 })) $
-      sets ! (ptr-of ! 53 refl refl) (init ! 31 refl (tt, tt)) $ sets ! (slice-of ! 31 53 refl refl refl) (init ! 29 refl (tt, (tt, (messages-wt, tt)))) $
-      sets ! (ptr-of ! 51 refl refl) (init ! 27 refl (tt, tt)) $ sets ! (slice-of ! 27 51 refl refl refl) (init ! 25 refl (tt, (tt, (rows-wt, tt)))) $
-      sets ! (ptr-of ! 49 refl refl) (init ! 23 refl (tt, tt)) $ sets ! (slice-of ! 23 49 refl refl refl) (init ! 21 refl (tt, (tt, (hops-wt, tt)))) $
-      calls ! fm (send-callee 𝓤 H A) (known .of-send) (t, (s, (g, (w, ((I, ts), ((J, ms), ((K, rows), ((L, hs), tt)))))))) (t-is, (source-is, (second-is, (third-is, tt)))) tt refl
-      (var ! 45 refl & var ! 35 refl & var ! 43 refl & var ! 33 refl & var ! 55 refl & var ! 29 refl & var ! 25 refl & var ! 21 refl & no-more !) (λ r-is.
-      into ! (init ! 41 refl (stored W by-sent sent r-is .0)) $
-      calls ! fm (after-send-callee 𝓤 H A) (known .of-after-send) (p, (sent, tt)) (p-is, (r-is, tt)) tt refl (var ! 59 refl & var ! 41 refl & no-more !) (λ q-is.
-      into ! (init ! 61 refl (stored W by-progress (afterSendIn p sent) q-is .0)) $ returns-within ! (Done-related self h) refl (look ! 61 refl) $
-      leaves ! (‵ (Views u32 I ts) ∷ ‵ (Holds u16 J (sendMessages number t s g w ms)) ∷ ‵ (Holds Row K (sendRows number ts s g rows)) ∷ ‵ (Holds R L (sendHops (benchIn t ts [] rows) s g hs))
-      ∷ ‵ (Holds u16 N book) ∷ []) locals bs (holds _ ∷ holds _ ∷ holds _ ∷ holds _ ∷ holds _ ∷ holds _ ∷ holds _ ∷ holds _ ∷ holds _ ∷ holds _ ∷ holds _ ∷ empty
-      ∷ holds _ ∷ holds _ ∷ holds _ ∷ holds _ ∷ holds _ ∷ holds _ ∷ holds _ ∷ holds _ ∷ holds _ ∷ empty ∷ empty ∷ empty ∷ empty ∷ empty ∷ empty ∷ empty ∷ empty ∷ []) tt $
-      concludes ! self h (afterSendIn p sent)
-      (sendMessages number t s g w ms, (sendRows number ts s g rows, (sendHops (benchIn t ts [] rows) s g hs, (book, tt)))) q-is
-      (event-sent p ts ms rows hs e book (came-true (isSend e) sends)))))))
-      (λ arrives.
-      sets ! (ptr-of ! 53 refl refl) (init ! 19 refl (tt, tt)) $ sets ! (slice-of ! 19 53 refl refl refl) (init ! 17 refl (tt, (tt, (messages-wt, tt)))) $
-      sets ! (ptr-of ! 51 refl refl) (init ! 15 refl (tt, tt)) $ sets ! (slice-of ! 15 51 refl refl refl) (init ! 13 refl (tt, (tt, (rows-wt, tt)))) $
-      sets ! (ptr-of ! 49 refl refl) (init ! 11 refl (tt, tt)) $ sets ! (slice-of ! 11 49 refl refl refl) (init ! 9 refl (tt, (tt, (hops-wt, tt)))) $
-      sets ! (ptr-of ! 47 refl refl) (init ! 7 refl (tt, tt)) $ sets ! (slice-of ! 7 47 refl refl refl) (init ! 5 refl (tt, (tt, (book-wt, tt)))) $
-      calls ! fm (arrive-shown-callee 𝓤 H A) (known .of-arrive) (t, (g, ((I, ts), ((J, ms), ((K, rows), ((L, hs), ((N, book), tt))))))) (t-is, (second-is, tt)) tt refl
-      (var ! 45 refl & var ! 43 refl & var ! 55 refl & var ! 17 refl & var ! 13 refl & var ! 9 refl & var ! 5 refl & no-more !) (λ r-is.
-      into ! (init ! 39 refl (stored W by-arrived arrived r-is .0)) $
-      calls ! fm (after-arrive-callee 𝓤 H A) (known .of-after-arrive) (p, (arrived, tt)) (p-is, (r-is, tt)) tt refl (var ! 59 refl & var ! 39 refl & no-more !) (λ q-is.
-      into ! (init ! 61 refl (stored W by-progress (afterArriveIn p arrived) q-is .0)) $ returns ! (look ! 61 refl) $
-      leaves ! (‵ (Views u32 I ts) ∷ ‵ (Holds u16 J ms) ∷ ‵ (Holds Row K (arriveRows b g rows hs book)) ∷ ‵ (Holds R L (arriveHops b g hs book)) ∷ ‵ (Holds u16 N (arriveBook b g hs book)) ∷ [])
-      locals bs (holds _ ∷ holds _ ∷ holds _ ∷ holds _ ∷ holds _ ∷ holds _ ∷ holds _ ∷ holds _ ∷ holds _ ∷ holds _ ∷ empty ∷ holds _
-      ∷ holds _ ∷ empty ∷ empty ∷ empty ∷ empty ∷ empty ∷ empty ∷ empty ∷ empty ∷ holds _ ∷ holds _ ∷ holds _ ∷ holds _ ∷ holds _ ∷ holds _ ∷ holds _ ∷ holds _ ∷ []) tt $
-      concludes ! self h (afterArriveIn p arrived) (ms, (arriveRows b g rows hs book, (arriveHops b g hs book, (arriveBook b g hs book, tt)))) q-is
-      (event-arrived p ts ms rows hs e book (came-false (isSend e) arrives)))))))))
+      -- [tables; messages; pairs; gauges; hops; book; the locals, the last first]
+      calls ! fm (totals-of-callee 𝓤 H A) (known .of-totals-of) (p, tt) (p-is, tt) tt refl (var ! 66 refl & no-more !) (λ t-is.
+      into ! (init ! 50 refl (stored W by-totals t t-is .0)) $
+      calls ! fm (second-callee 𝓤 H A) (known .of-second) (e, tt) (e-is, tt) tt refl (var ! 64 refl & no-more !) (λ second-is.
+      into ! (init ! 48 refl (tt, record { fits = second-is .1 })) $
+      calls ! fm (is-send-callee 𝓤 H A) (known .of-is-send) (e, tt) (e-is, tt) tt refl (var ! 64 refl & no-more !)
+      (λ _. into ! (init ! 42 refl (tt, tt)) $
+      if-then ! (var ! 42 refl)
+      (λ is-send.
+      calls ! fm (source-callee 𝓤 H A) (known .of-source) (e, tt) (e-is, tt) tt refl (var ! 64 refl & no-more !) (λ source-is.
+      into ! (init ! 40 refl (tt, record { fits = source-is .1 })) $
+      calls ! fm (third-callee 𝓤 H A) (known .of-third) (e, tt) (e-is, tt) tt refl (var ! 64 refl & no-more !) (λ third-is.
+      into ! (init ! 38 refl (tt, record { fits = third-is .1 })) $
+      sets ! (ptr-of ! 60 refl refl) (init ! 36 refl (tt, tt)) $ sets ! (slice-of ! 36 60 refl refl refl)
+      (init ! 34 refl (tt, (tt, (messages-wt, tt)))) $
+      sets ! (ptr-of ! 58 refl refl) (init ! 32 refl (tt, tt)) $ sets ! (slice-of ! 32 58 refl refl refl)
+      (init ! 30 refl (tt, (tt, (pairs-wt, tt)))) $
+      sets ! (ptr-of ! 54 refl refl) (init ! 28 refl (tt, tt)) $ sets ! (slice-of ! 28 54 refl refl refl)
+      (init ! 26 refl (tt, (tt, (hops-wt, tt)))) $
+      move ! (0 ∷ 1 ∷ 2 ∷ 4 ∷ []) $
+      -- [tables; messages; pairs; hops; gauges; book]
+      calls-related ! fm (send-callee 𝓤 H A) (known .of-send) (t, (s, (g, (w, ((I, ts), ((J, ms), ((K, ps), ((L, hs), tt))))))))
+      (t-is, (source-is, (second-is, (third-is, tt)))) tt refl
+      (var ! 50 refl & var ! 40 refl & var ! 48 refl & var ! 38 refl & var ! 62 refl & var ! 34 refl & var ! 30 refl & var ! 26 refl &
+      no-more !)
+      (λ r es said r-is.
+      into ! (init ! 46 refl (stored W by-sent r r-is .0)) $
+      calls ! fm (after-send-callee 𝓤 H A) (known .of-after-send) (p, (r, tt)) (p-is, (r-is, tt)) tt refl
+      (var ! 66 refl & var ! 46 refl & no-more !) (λ q-is.
+      into ! (init ! 68 refl (stored W by-progress (afterSend p r) q-is .0)) $
+      move ! (0 ∷ 1 ∷ 2 ∷ 4 ∷ []) $ returns-within ! (Done-related self h) refl (look ! 68 refl) $
+      leaves ! (‵ (Views u32 I ts) ∷ ‵ (Holds u32 J (es .0)) ∷ ‵ (Holds Grid K (es .1 .0)) ∷ ‵ (Holds u16 Q gs) ∷ ‵
+      (Holds R L (es .1 .1 .0)) ∷ ‵ (Holds u16 N book) ∷ [])
+      locals bs
+      (holds _ ∷ holds _ ∷ holds _ ∷ holds _ ∷ holds _ ∷ holds _ ∷ holds _ ∷ holds _ ∷ holds _ ∷ holds _ ∷ holds _ ∷ holds _ ∷
+      empty ∷ holds _ ∷ holds _ ∷ holds _ ∷ holds _ ∷ holds _ ∷ holds _ ∷ holds _ ∷ holds _ ∷ holds _ ∷
+      empty ∷ empty ∷ empty ∷ empty ∷ empty ∷ empty ∷ empty ∷ empty ∷ empty ∷ empty ∷ []) tt $
+      concludes ! self h (afterSend p r) (es .0, (es .1 .0, (gs, (es .1 .1 .0, (book, tt))))) q-is
+      (sent r (came-true (isSend e) is-send) (said gs)))))))
+      (λ is-arrive.
+      sets ! (ptr-of ! 60 refl refl) (init ! 24 refl (tt, tt)) $ sets ! (slice-of ! 24 60 refl refl refl)
+      (init ! 22 refl (tt, (tt, (messages-wt, tt)))) $
+      sets ! (ptr-of ! 58 refl refl) (init ! 20 refl (tt, tt)) $ sets ! (slice-of ! 20 58 refl refl refl)
+      (init ! 18 refl (tt, (tt, (pairs-wt, tt)))) $
+      sets ! (ptr-of ! 56 refl refl) (init ! 16 refl (tt, tt)) $ sets ! (slice-of ! 16 56 refl refl refl)
+      (init ! 14 refl (tt, (tt, (gauges-wt, tt)))) $
+      sets ! (ptr-of ! 54 refl refl) (init ! 12 refl (tt, tt)) $ sets ! (slice-of ! 12 54 refl refl refl)
+      (init ! 10 refl (tt, (tt, (hops-wt, tt)))) $
+      sets ! (ptr-of ! 52 refl refl) (init ! 8 refl (tt, tt)) $ sets ! (slice-of ! 8 52 refl refl refl)
+      (init ! 6 refl (tt, (tt, (book-wt, tt)))) $
+      calls-related ! fm (arrive-callee 𝓤 H A) (known .of-arrive)
+      (t, (g, ((I, ts), ((J, ms), ((K, ps), ((Q, gs), ((L, hs), ((N, book), tt))))))))
+      (t-is, (second-is, tt)) tt refl
+      (var ! 50 refl & var ! 48 refl & var ! 62 refl & var ! 22 refl & var ! 18 refl & var ! 14 refl & var ! 10 refl & var ! 6 refl &
+      no-more !)
+      (λ r es said r-is.
+      into ! (init ! 44 refl (stored W by-arrived r r-is .0)) $
+      calls ! fm (after-arrive-callee 𝓤 H A) (known .of-after-arrive) (p, (r, tt)) (p-is, (r-is, tt)) tt refl
+      (var ! 66 refl & var ! 44 refl & no-more !) (λ q-is.
+      into ! (init ! 68 refl (stored W by-progress (afterArrive p r) q-is .0)) $ returns ! (look ! 68 refl) $
+      leaves ! (‵ (Views u32 I ts) ∷ ‵ (Holds u32 J (es .0)) ∷ ‵ (Holds Grid K (es .1 .0)) ∷ ‵ (Holds u16 Q (es .1 .1 .0))
+      ∷ ‵ (Holds R L (es .1 .1 .1 .0)) ∷ ‵ (Holds u16 N (es .1 .1 .1 .1 .0)) ∷ []) locals bs
+      (holds _ ∷ holds _ ∷ holds _ ∷ holds _ ∷ holds _ ∷ holds _ ∷ holds _ ∷ holds _ ∷ holds _ ∷ holds _ ∷ holds _ ∷ empty ∷ holds _ ∷
+      holds _ ∷
+      empty ∷ empty ∷ empty ∷ empty ∷ empty ∷ empty ∷ empty ∷ empty ∷
+      holds _ ∷ holds _ ∷ holds _ ∷ holds _ ∷ holds _ ∷ holds _ ∷ holds _ ∷ holds _ ∷ holds _ ∷ holds _ ∷ []) tt $
+      concludes ! self h (afterArrive p r) (es .0, (es .1 .0, (es .1 .1 .0, (es .1 .1 .1 .0, (es .1 .1 .1 .1 .0, tt))))) q-is
+      (arrived r (came-false (isSend e) is-arrive) said))))))))
 
 pub run-event-spec : {M : Type 1} → stated.statement M
 unfolding code.routine tablesOf
@@ -127,8 +155,9 @@ run-event-spec 𝓤 H 𝓜 𝓖 𝓡 =
       of-is-send = cited 𝓤 H _ 𝓜 𝓡 code.env is-send-def.name _ code.calls-runner·events·is-send (is-send-thm.met 𝓤 H 𝓜 𝓖 𝓡);
       of-source = cited 𝓤 H _ 𝓜 𝓡 code.env source-def.name _ code.calls-runner·events·source (source-thm.met 𝓤 H 𝓜 𝓖 𝓡);
       of-third = cited 𝓤 H _ 𝓜 𝓡 code.env third-def.name _ code.calls-runner·events·third (third-thm.met 𝓤 H 𝓜 𝓖 𝓡);
-      of-send = cited 𝓤 H _ 𝓜 𝓡 code.env send-def.name _ code.calls-in-place·sending·send (send-thm.met 𝓤 H 𝓜 𝓖 𝓡);
+      of-send = cited 𝓤 H _ 𝓜 𝓡 code.env send-def.name _ code.calls-bench-engine·sending·send (send-thm.met 𝓤 H 𝓜 𝓖 𝓡);
       of-after-send = cited 𝓤 H _ 𝓜 𝓡 code.env after-send-def.name _ code.calls-runner·events·after-send (after-send-thm.met 𝓤 H 𝓜 𝓖 𝓡);
-      of-arrive = cited 𝓤 H _ 𝓜 𝓡 code.env arrive-def.name _ code.calls-in-place·arriving·arrive (arrive-thm.met 𝓤 H 𝓜 𝓖 𝓡);
-      of-after-arrive = cited 𝓤 H _ 𝓜 𝓡 code.env after-arrive-def.name _ code.calls-runner·events·after-arrive (after-arrive-thm.met 𝓤 H 𝓜 𝓖 𝓡);
+      of-arrive = cited 𝓤 H _ 𝓜 𝓡 code.env arrive-def.name _ code.calls-bench-engine·arriving·arrive (arrive-thm.met 𝓤 H 𝓜 𝓖 𝓡);
+      of-after-arrive = cited 𝓤 H _ 𝓜 𝓡 code.env after-arrive-def.name _ code.calls-runner·events·after-arrive
+          (after-arrive-thm.met 𝓤 H 𝓜 𝓖 𝓡);
     } h fit rooms)

@@ -1,6 +1,6 @@
 -- In each case the rule computes the number.
 use borrow.Author.Needs.{needs}
-use Rattle.relay.specs.Replies.{sendAnswer}
+use Rattle.bench_promises.specs.Replies.{sendAnswer}
 use Rattle.runner.specs.Steps.{refusalOf}
 use Rattle.runner.proofs.events.send_refusal.Statement.{statement}
 use Rattle.runner.proofs.events.send_refusal.Tie as tie

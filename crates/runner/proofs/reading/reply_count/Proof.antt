@@ -6,8 +6,8 @@ use types.Run.{OneOf, miss}
 use denote.Enum.Declared.{tagOf}
 use Rattle.benchfile.specs.Calls.{readAnswer}
 use Rattle.benchfile.specs.declared.ReadReply.{ReadReply}
-use Rattle.benchfile.specs.declared.ReadReply.the-variants.{Read, ListTooShort, FileTooLong, NoLine, BadValue, BadCount}
-use Rattle.benchfile.specs.declared.ReadReply.the-variants.{NoSuchUnit, NotRising, WrongLength, TooManyEvents}
+use Rattle.benchfile.specs.declared.ReadReply.the-variants.{Read, ListTooShort, FileTooLong, NoLine, BadValue, BadCount, NoSuchUnit}
+use Rattle.benchfile.specs.declared.ReadReply.the-variants.{NotRising, WrongLength, TooManyEvents}
 use Rattle.benchfile.proofs.ReadReply.{the-type}
 use Rattle.runner.specs.Steps.{countOf}
 use Rattle.runner.proofs.reading.reply_count.Statement.{statement}

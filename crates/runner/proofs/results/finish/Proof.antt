@@ -25,11 +25,13 @@ same-length c = search needs
 
 returns : tie.Need-returns
 unfolding ended
-returns c = record {
-  prints = λ small.
+returns c = λ ms ps. record {
+  prints = λ small logs back.
       rw (ended-append, ← c .before .before .before .is-rest .ensures) (written-append
-      (c .before .before .before .before .before .before .before .before .before .before .before .before .put-logs .ensures small)
-      (rw append-assoc at (written-append (c .before .before .before .before .before .before .before .put-hops .ensures) (c .before .before .put-rest .ensures))));
+      (c .before .before .before .before .before .before .before .before .before .before .before .before .put-logs .ensures _ ms ps small
+      logs back)
+      (rw append-assoc at (written-append (c .before .before .before .before .before .before .before .put-hops .ensures)
+      (c .before .before .put-rest .ensures))));
   sum = refl;
 }
 

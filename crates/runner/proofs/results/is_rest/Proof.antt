@@ -1,6 +1,6 @@
 -- In each case the rule computes the answer.
 use borrow.Author.Needs.{needs}
-use Rattle.relay.specs.Replies.{restAnswer}
+use Rattle.bench_promises.specs.Replies.{restAnswer}
 use Rattle.runner.specs.Steps.{saysRest}
 use Rattle.runner.proofs.results.is_rest.Statement.{statement}
 use Rattle.runner.proofs.results.is_rest.Tie as tie

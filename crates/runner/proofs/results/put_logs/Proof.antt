@@ -7,24 +7,28 @@ use native.Mathlib.Nat.{le-trans}
 use lib.ListN.{length, drop}
 use Rattle.benchfile.specs.File.{ended}
 use Rattle.line_writer.proofs.Texts.{Remains, remains-next, remains-none}
-use Rattle.runner.specs.Steps.{partOf}
+use Rattle.bench_promises.specs.declared.Totals.{Totals}
+use Rattle.bench_promises.specs.State.{bench}
+use Rattle.runner.specs.Steps.{HandsBack}
 use Rattle.runner.specs.Printed.{logLines}
 use Rattle.runner.proofs.LogTexts.{logs-next, logs-end}
 use Rattle.runner.proofs.results.put_logs.Statement.{statement}
 use Rattle.runner.proofs.results.put_logs.Tie as tie
 
 abbrev Inv-loop : tie.InvT-loop
-Inv-loop tables rows book out₀ at units next₀ u₀ out next u = (length out ≡ length out₀) × (units ≤ 32
-    → Remains (ended (drop u (logLines units (partOf tables rows book)))) (ended (logLines units (partOf tables rows book))) at out₀ next out)
+Inv-loop tables gauges book out₀ at units next₀ u₀ out next u = (length out ≡ length out₀) ×
+    ((t : Totals) (ms : List ℕ) (ps : List (List (List ℕ)))
+    → units ≤ 32 → (logs : ℕ → List ℕ) → HandsBack (bench t tables ms ps gauges) book logs → Remains (ended (drop u (logLines units logs)))
+    (ended (logLines units logs)) at out₀ next out)
 
 abbrev μ-loop : tie.MeasureT-loop
-μ-loop tables rows book out₀ at units next₀ u₀ out next u = 32 - u
+μ-loop tables gauges book out₀ at units next₀ u₀ out next u = 32 - u
 
 unit-count-requires : tie.Need-unit-count-requires Inv-loop μ-loop
 unit-count-requires c κs = search needs
 
 loop-holds : tie.Need-loop-holds Inv-loop μ-loop
-loop-holds c = (search needs, λ small place left w. w)
+loop-holds c = (search needs, λ t ms ps small logs back place left w. w)
 
 cast-if1 : tie.Need-cast-if1 Inv-loop μ-loop
 cast-if1 c = search needs
@@ -35,7 +39,9 @@ same-length c = c .before .before .loop .inv .0
 returns : tie.Need-returns Inv-loop μ-loop
 returns c =
     let loop = c .before .before in let unit-count = loop .before in
-    λ small. rw (← unit-count .unit-count .ensures) (remains-none (rw (logs-end _ _ _ (c .if1 .taken)) at (loop .loop .inv .1 (rw (unit-count .unit-count .ensures) small))))
+    λ t ms ps small logs back. rw (← unit-count .unit-count .ensures)
+    (remains-none (rw (logs-end _ _ _ (c .if1 .taken)) at (loop .loop .inv .1 t ms ps (rw (unit-count .unit-count .ensures) small) logs
+    back)))
 
 put-unit-requires : tie.Need-put-unit-requires Inv-loop μ-loop
 put-unit-requires c κs = search needs
@@ -50,16 +56,18 @@ loop-again : tie.Need-loop-again Inv-loop μ-loop
 loop-again c =
     let put-unit = c .before .before in let test = put-unit .before .before in let loop = test .before .before in (
       search needs,
-      λ small. remains-next (rw (logs-next _ _ _ (test .if1 .left)) at (loop .loop .inv .1 small)) (put-unit .put-unit .ensures),
+      λ t ms ps small logs back. remains-next (rw (logs-next _ _ _ (test .if1 .left)) at (loop .loop .inv .1 t ms ps small logs back))
+          (put-unit .put-unit .ensures t ms ps logs back),
     )
 
 same-length-2 : tie.Need-same-length-2 Inv-loop μ-loop
 same-length-2 c = c .before .loop .inv .0
 
 returns-2 : tie.Need-returns-2 Inv-loop μ-loop
-returns-2 c = λ small.
+returns-2 c = λ t ms ps small logs back.
     let few : c .before .before .unit-count .result ≤ 32 = rw (c .before .before .unit-count .ensures) small in
-    rw (← c .before .before .unit-count .ensures) (remains-none (rw (logs-end _ _ _ (le-trans few (c .loop-test .left))) at (c .before .loop .inv .1 few)))
+    rw (← c .before .before .unit-count .ensures) (remains-none
+    (rw (logs-end _ _ _ (le-trans few (c .loop-test .left))) at (c .before .loop .inv .1 t ms ps few logs back)))
 
 pub put-logs-spec : {M : Type 1} → statement M
 put-logs-spec =

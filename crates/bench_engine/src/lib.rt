@@ -1,0 +1,31 @@
+// The bench on lent lists: the one code of `send`, `arrive`, `rest`, `log` and `log_length`. A bench is its totals, by value, and four
+// lists
+// of the caller's; hops and log book are lent beside them. What each call promises stands in bench_promises/specs/Promises.antt.
+//     tables     what is computed of the forest (crate `forest_tables`)
+//     messages   columns of the messages: their sources, groups and words (`Messages` of `bench_store`)
+//     pairs      two arrays of counts of each ordered pair of units: hops made, hops taken (`PairCounts` of `bench_store`)
+//     gauges     columns of the small numbers of each unit: the lengths of the logs (`Gauges` of `bench_store`)
+pub mod arriving;
+pub mod looking;
+pub mod sending;
+
+pub use arriving::arrive;
+use bench_promises::ArriveReply;
+use bench_promises::SendReply;
+use bench_promises::Totals;
+pub use looking::log;
+pub use looking::log_length;
+pub use looking::rest;
+pub use sending::send;
+
+// What `send` answers.
+pub struct Sent {
+    pub totals: Totals,
+    pub reply: SendReply,
+}
+
+// What `arrive` answers.
+pub struct Arrived {
+    pub totals: Totals,
+    pub reply: ArriveReply,
+}

@@ -1,0 +1,13 @@
+pub mod Padding
+pub mod Books
+pub mod Sends
+pub mod Forwards
+pub mod Copies
+pub mod Searches
+pub mod Settles
+pub mod Turns
+pub mod Arrivals
+pub mod LogParts
+pub mod Promised
+pub mod Reached
+pub mod Theorems

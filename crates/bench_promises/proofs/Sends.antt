@@ -1,0 +1,259 @@
+-- A send computes what the rule says: from the definitions of specs/Machine.antt to the promise. Assumes nothing.
+use mathlib.Core.Path.{_≡_, refl, sym, ap, subst, _∙_}
+use mathlib.Core.Bool.{Bool, true, false, _&&_, and-false}
+use mathlib.Core.List.{List, [], _∷_, _++_}
+use Prim.Native.Nat.{ℕ, suc, _+_, _≤_, _<_}
+use native.Mathlib.Nat.{le-trans}
+use native.Mathlib.Numerals.{add-one}
+use native.Mathlib.Omega.{arith}
+use borrow.Author.Tests.{ltb-false, leb-false, le-ltb, eq-eqb, ne-eqb}
+use lib.Dec.{ltb, leb, eqb}
+use lib.ListN.{length, set}
+use Rattle.sets.specs.Sets.{size}
+use Rattle.sets.proofs.Bools.{clash, cond-true}
+use Rattle.sets.proofs.Laws.{member-below, collect-below, size-below, size-positive}
+use Rattle.forest.specs.Forest.{route, routeSize}
+use Rattle.model.specs.declared.Hop.{Hop}
+use Rattle.model.specs.declared.Message.{Message}
+use Rattle.model.specs.Network.{Plan, groupOf, primaryOf, routeOf, routeSizeOf, Network, network, noHop, messagesOf, hopsOf, logOf, isPair}
+use Rattle.model.specs.Network.{isTaken, bit, countHops, pairCount, newHop, made, pairTaken, takenOf}
+use Rattle.model.specs.Rules.{Refused, Sent, Outcome, outcome, refuse, refused, answerOf, leftOf, routeTotal, send}
+use Rattle.model.specs.Claims.{Limits}
+use Rattle.model.proofs.Hops.{length-snoc, count-snoc, count-length, sum-snoc}
+use Rattle.model.proofs.Sound.{Forest}
+use Rattle.forest_tables.specs.Computed.{tablesOf, primaryIn, routeIn}
+use Rattle.forest_tables.proofs.Columns.{primary-in, route-in, units-in, groups-in}
+use Rattle.bench_store.specs.Values.{plus, countOf, raised, gridIn}
+use Rattle.bench_promises.specs.declared.Totals.{Totals}
+use Rattle.bench_promises.specs.Machine.{sendRefusal, sentReply, firstHop, recordedTotals, recordedMessages, recordedPairs}
+use Rattle.bench_promises.specs.Replies.{sendAnswer}
+use Rattle.bench_promises.specs.State.{Bench, padded, hopRecords, pairTable, totalsOf, benchOf}
+use Rattle.bench_promises.proofs.Padding.{plus-small, byte-small, padded-length, padded-snoc, append-set, pair-in, count-at}
+use Rattle.bench_promises.proofs.Padding.{pair-same, pair-added, messages-snoc}
+
+-- a primary is a unit below 32, and a route holds it
+module _ (P : Plan) (forest : Forest P) where
+  pub primary-unit : (g : ℕ) → g < P .count → primaryOf P g < 32
+  unfolding routeOf route
+  primary-unit g b = member-below 32 (routeOf P g) (primaryOf P g) (collect-below 32 _) (forest .primary-on g b)
+
+  pub route-some : (g : ℕ) → g < P .count → 1 ≤ routeSizeOf P g
+  unfolding routeSizeOf routeSize routeOf
+  route-some g b = size-positive (routeOf P g) (primaryOf P g) (primary-unit g b) (forest .primary-on g b)
+
+pub route-few : (P : Plan) (g : ℕ) → routeSizeOf P g ≤ 32
+unfolding routeSizeOf routeSize
+route-few P g = size-below (route (P .parents) (groupOf P g))
+
+-- ---- what the tables of a forest hold
+
+-- the tables of a plan
+abbrev pub tablesAt : Plan → List ℕ
+tablesAt P = tablesOf (P .units) (P .count) (P .groups) (P .parents)
+
+pub primary-at : (P : Plan) → Forest P → (g : ℕ) → g < P .count → primaryIn (tablesAt P) g ≡ primaryOf P g
+unfolding primaryOf groupOf
+primary-at P forest g b =
+    primary-in (P .units) (P .count) (P .groups) (P .parents) g (le-trans b (forest .few-groups)) (omega (arith, primary-unit P forest g b))
+
+pub size-at : (P : Plan) (g : ℕ) → g < 24 → size (routeIn (tablesAt P) g) ≡ routeSizeOf P g
+unfolding routeSizeOf routeSize groupOf
+size-at P g b = ap size (route-in (P .units) (P .count) (P .groups) (P .parents) g b)
+
+-- ---- one hop more
+
+pub count-made : (a b s r m : ℕ) (hs : List Hop) → pairCount a b (made s r m hs) ≡ pairCount a b hs + bit (eqb s a && eqb r b)
+unfolding pairCount made newHop isPair
+count-made a b s r m hs = count-snoc (isPair a b) hs (newHop s r m hs)
+
+pub count-made-here : (s r m : ℕ) (hs : List Hop) → pairCount s r (made s r m hs) ≡ pairCount s r hs + 1
+unfolding bit
+count-made-here s r m hs = count-made s r s r m hs ∙ ap (λ (k : ℕ). pairCount s r hs + k)
+    (simp (eq-eqb s s refl) (simp (eq-eqb r r refl) refl))
+
+pub count-made-row : (s k r m : ℕ) (hs : List Hop) → (k ≡ r → ⊥) → pairCount s k (made s r m hs) ≡ pairCount s k hs
+unfolding bit
+count-made-row s k r m hs ne =
+    count-made s k s r m hs
+    ∙ omega (arith, ap bit (ap (λ (t : Bool). eqb s s && t) (ne-eqb r k (λ e. ne (sym e))) ∙ and-false (eqb s s)))
+
+pub count-made-other : (a b s r m : ℕ) (hs : List Hop) → (a ≡ s → ⊥) → pairCount a b (made s r m hs) ≡ pairCount a b hs
+unfolding bit
+count-made-other a b s r m hs ne = count-made a b s r m hs ∙ omega
+    (arith, ap (λ (t : Bool). bit (t && eqb r b)) (ne-eqb s a (λ e. ne (sym e))))
+
+-- the counts of the pairs, with one more at s and r
+pub counts-made : (hs : List Hop) (s r m : ℕ) → s < 32 → r < 32 → pairCount s r hs < 65535
+    → raised (pairTable (λ a b. pairCount a b hs)) s r ≡ pairTable (λ a b. pairCount a b (made s r m hs))
+unfolding raised
+counts-made hs s r m bs br few =
+    cond-true _ _ _ (pair-in s r bs br)
+    ∙ pair-added (λ a b. pairCount a b hs) (λ a b. pairCount a b (made s r m hs)) s r 1 bs br (omega arith) (count-made-here s r m hs)
+    (λ k ne. count-made-row s k r m hs ne) (λ a b ne. count-made-other a b s r m hs ne)
+
+-- a hop just made is not taken
+pub taken-made : (s r m : ℕ) (hs : List Hop) → countHops isTaken (made s r m hs) ≡ countHops isTaken hs
+unfolding made newHop isTaken bit
+taken-made s r m hs = count-snoc isTaken hs (newHop s r m hs) ∙ omega arith
+
+pub takes-made : (a b s r m : ℕ) (hs : List Hop) → pairTaken a b (made s r m hs) ≡ pairTaken a b hs
+unfolding pairTaken takenOf made newHop isTaken bit
+takes-made a b s r m hs =
+    count-snoc (takenOf a b) hs (newHop s r m hs) ∙ omega (arith, ap bit (and-false (isPair a b (newHop s r m hs))))
+
+pub count-few : (a b : ℕ) (hs : List Hop) → pairCount a b hs ≤ length hs
+unfolding pairCount
+count-few a b hs = count-length (isPair a b) hs
+
+-- ---- the rule
+
+-- the bench with a message sent
+abbrev pub recordedBench : Bench → (source group word : ℕ) → Bench
+recordedBench b s g w = record {
+  totals = recordedTotals (b .totals) (b .tables) g;
+  tables = b .tables;
+  messages = recordedMessages (b .totals) s g w (b .messages);
+  pairs = recordedPairs (b .tables) s g (b .pairs);
+  gauges = b .gauges;
+}
+
+module _ (P : Plan) (forest : Forest P) (ms : List Message) (hs : List Hop) (ls : List (List ℕ)) (limits : Limits P (network ms hs ls))
+    (rest : List Hop) (s g w : ℕ) where
+  abbrev W : Network
+  W = network ms hs ls
+
+  abbrev b : Bench
+  b = benchOf P W
+
+  abbrev t : Totals
+  t = totalsOf P W
+
+  abbrev lent : List Hop
+  lent = hopRecords W ++ rest
+
+  abbrev x : Message
+  x = record { source = s; group = g; word = w }
+
+  abbrev W′ : Network
+  W′ = network (ms ++ x ∷ []) (made s (primaryOf P g) (suc (length ms)) hs) ls
+
+  -- what a send that is not turned away answers and leaves is the rule's outcome o
+  pub record Sends (o : Outcome) : Type 0 where
+    pub bench : recordedBench b s g w ≡ benchOf P (leftOf o)
+    pub answer : sendAnswer (sentReply t 0) ≡ answerOf o
+    pub hops : set lent (t .made) (firstHop t (b .tables) (b .pairs) s g) ≡ hopRecords (leftOf o) ++ rest
+
+  -- the refusal with this number, or 0, and the rule's outcome agree
+  pub record Agree (number : ℕ) (o : Outcome) : Type 0 where
+    pub turned : eqb number 0 ≡ false → (o ≡ refused number W) × (sendAnswer (sentReply t number) ≡ Refused number)
+    pub sent : eqb number 0 ≡ true → Sends o
+
+  few-hops : length hs ≤ 2000
+  unfolding hopsOf messagesOf
+  few-hops = le-trans (limits .hops) (limits .routes)
+
+  few-routes : routeTotal P ms ≤ 2000
+  unfolding messagesOf
+  few-routes = limits .routes
+
+  either-agrees : (test : Bool) (number other : ℕ) (o : Outcome) → Agree number (refused number W) → (test ≡ false → Agree other o)
+      → Agree (refuse test number other) (refuse test (refused number W) o)
+  unfolding refuse
+  either-agrees true number other o a f = a
+  either-agrees false number other o a f = f refl
+
+  module _ (bs : s < P .units) (bg : g < P .count) (fewer : length ms < 200) (routed : routeTotal P ms + routeSizeOf P g ≤ 2000) where
+    source-unit : s < 32
+    source-unit = le-trans bs (forest .few)
+
+    group-place : g < 24
+    group-place = le-trans bg (forest .few-groups)
+
+    top : primaryIn (b .tables) g ≡ primaryOf P g
+    unfolding benchOf
+    top = primary-at P forest g bg
+
+    room : length hs < 2000
+    unfolding hopsOf messagesOf
+    room = omega (arith, limits .hops, route-some P forest g bg)
+
+    counted : pairCount s (primaryOf P g) hs < 65535
+    counted = omega (arith, count-few s (primaryOf P g) hs, room)
+
+    hop-is : firstHop t (b .tables) (b .pairs) s g ≡ newHop s (primaryOf P g) (suc (length ms)) hs
+    unfolding firstHop gridIn newHop benchOf totalsOf messagesOf hopsOf
+    hop-is = λ i. record {
+      sender = byte-small s (omega (arith, source-unit)) i;
+      receiver = top i;
+      sequence = (ap (λ (r : ℕ). plus (countOf (pairTable (λ a c. pairCount a c hs)) s r) 1) top
+          ∙ ap (λ (n : ℕ). plus n 1) (count-at (λ a c. pairCount a c hs) s (primaryOf P g) source-unit (primary-unit P forest g bg))
+          ∙ plus-small (pairCount s (primaryOf P g) hs) 1 (omega (arith, counted)) ∙ add-one (pairCount s (primaryOf P g) hs)) i;
+      message = (plus-small (length ms) 1 (omega (arith, fewer)) ∙ add-one (length ms)) i;
+      state = 0;
+    }
+
+    totals-are : recordedTotals t (b .tables) g ≡ totalsOf P W′
+    unfolding recordedTotals benchOf totalsOf messagesOf hopsOf made routeTotal
+    totals-are = λ i. record {
+      made = (plus-small (length hs) 1 (omega (arith, room)) ∙ add-one (length hs) ∙ sym
+          (length-snoc hs (newHop s (primaryOf P g) (suc (length ms)) hs))) i;
+      taken = sym (taken-made s (primaryOf P g) (suc (length ms)) hs) i;
+      sent = (plus-small (length ms) 1 (omega (arith, fewer)) ∙ add-one (length ms) ∙ sym (length-snoc ms x)) i;
+      routed = (ap (plus (routeTotal P ms)) (size-at P g group-place) ∙ plus-small (routeTotal P ms) (routeSizeOf P g)
+          (omega (arith, routed))
+          ∙ sym (sum-snoc (λ m. routeSizeOf P (m .group)) ms x)) i;
+    }
+
+    bench-is : recordedBench b s g w ≡ benchOf P W′
+    unfolding benchOf totalsOf recordedMessages recordedPairs gridIn messagesOf hopsOf logOf
+    bench-is = λ i. record {
+      totals = totals-are i;
+      tables = b .tables;
+      messages = messages-snoc ms x fewer i;
+      pairs = (ap (λ (r : ℕ). raised (pairTable (λ a c. pairCount a c hs)) s r) top
+          ∙ counts-made hs s (primaryOf P g) (suc (length ms)) source-unit (primary-unit P forest g bg) counted) i
+          ∷ pair-same _ _ (λ a c ba bc. sym (takes-made a c s (primaryOf P g) (suc (length ms)) hs)) i ∷ [];
+      gauges = b .gauges;
+    }
+
+    accepted : Agree 0 (outcome (Sent (suc (length ms))) W′)
+    unfolding sentReply sendAnswer leftOf answerOf refuse totalsOf messagesOf hopsOf hopRecords made
+    accepted = record {
+      turned = λ e. absurd (clash refl e);
+      sent = λ e. record {
+        bench = bench-is;
+        answer = ap Sent (plus-small (length ms) 1 (omega (arith, fewer)) ∙ add-one (length ms));
+        hops = ap (λ (h : Hop). set lent (length hs) h) hop-is
+            ∙ append-set (padded 2000 noHop hs) rest (length hs) _
+            (subst (λ (n : ℕ). length hs < n) (sym (padded-length 2000 noHop hs few-hops)) room)
+            ∙ ap (λ (l : List Hop). l ++ rest) (padded-snoc 2000 noHop _ hs room);
+      };
+    }
+
+  -- a refusal changes nothing
+  turned-away : (number : ℕ) → sendAnswer (sentReply t number) ≡ Refused number → eqb number 0 ≡ false → Agree number (refused number W)
+  turned-away number answer none = record { turned = λ e. (refl, answer); sent = λ e. absurd (clash e none) }
+
+  size-is : leb (P .count) g ≡ false → ltb 2000 (plus (routeTotal P ms) (size (routeIn (tablesAt P) g))) ≡ ltb 2000
+      (routeTotal P ms + routeSizeOf P g)
+  size-is e =
+      ap (λ (k : ℕ). ltb 2000 (plus (routeTotal P ms) k)) (size-at P g (le-trans (leb-false (P .count) g e) (forest .few-groups)))
+      ∙ ap (ltb 2000) (plus-small (routeTotal P ms) (routeSizeOf P g) (omega (arith, few-routes, route-few P g)))
+
+  pub agrees : 2000 ≤ length lent → Agree (sendRefusal t (b .tables) s g (length lent)) (send P s g w W)
+  unfolding sendRefusal send benchOf totalsOf messagesOf sentReply sendAnswer refuse
+  agrees whole =
+      simp (
+        le-ltb (length lent) 2000 whole,
+        units-in (P .units) (P .count) (P .groups) (P .parents),
+        groups-in (P .units) (P .count)
+            (P .groups) (P .parents),
+      )
+      (either-agrees (leb (P .units) s) 12 _ _ (turned-away 12 refl refl)
+      (λ e. either-agrees (leb (P .count) g) 13 _ _ (turned-away 13 refl refl)
+      (λ u. either-agrees (leb 200 (length ms)) 14 _ _ (turned-away 14 refl refl)
+      (λ v. subst (λ (test : Bool). Agree (refuse test 15 0)
+      (refuse (ltb 2000 (routeTotal P ms + routeSizeOf P g)) (refused 15 W) (outcome (Sent (suc (length ms))) W′)))
+      (sym (size-is u))
+      (either-agrees (ltb 2000 (routeTotal P ms + routeSizeOf P g)) 15 _ _ (turned-away 15 refl refl)
+      (λ y. accepted (leb-false (P .units) s e) (leb-false (P .count) g u) (leb-false 200 (length ms) v) (ltb-false 2000 _ y)))))))

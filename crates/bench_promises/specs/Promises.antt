@@ -1,0 +1,114 @@
+-- What each call promises (document 01, "For those who test"): these records stand in the contracts of the calls, those on lent lists and
+-- those by value. Definitions only. `b` is the bench that a call's arguments say, `left` the bench that it answers and leaves.
+-- The one premise: the forest comes from an unrefused `build` or `check` with the same units and groups (`Planned`), and bench, hops and
+-- book are those that a list of calls has left. Of a longer list the first 2,000 hops and 6,400 numbers are used, and the rest stays.
+use mathlib.Core.Path.{_≡_}
+use mathlib.Core.Logic.{_⊎_}
+use Prim.Native.Nat.{ℕ, _+_, _*_, _≤_, _<_}
+use mathlib.Core.List.{List, [], _∷_, _++_}
+use lib.ListN.{length, take, drop}
+use denote.Ref.{RefT}
+use Rattle.model.specs.declared.Hop.{Hop}
+use Rattle.model.specs.Network.{Plan, Network, fresh}
+use Rattle.model.specs.Rules.{Outcome, Refused, answerOf, leftOf, quiescent}
+use Rattle.model.specs.Rules.{send}
+use Rattle.model.specs.Rules.{arrive}
+use Rattle.model.specs.Calls.{Call, run, networkOf, LogAnswer, LogRefused, Log, log, RestRefused, Rest}
+use Rattle.model.specs.Demand3.{Planned}
+use Rattle.bench_promises.specs.declared.replies.FreshReply.{FreshReply}
+use Rattle.bench_promises.specs.declared.replies.SendReply.{SendReply}
+use Rattle.bench_promises.specs.declared.replies.ArriveReply.{ArriveReply}
+use Rattle.bench_promises.specs.declared.replies.LogReply.{LogReply}
+use Rattle.bench_promises.specs.declared.replies.RestReply.{RestReply}
+use Rattle.bench_promises.specs.Replies.{freshAnswer, sendAnswer, arriveAnswer, LengthAnswer, LengthRefused, Length, logAnswer}
+use Rattle.bench_promises.specs.Replies.{restAnswer}
+use Rattle.bench_promises.specs.State.{Bench, hopRecords, logBook, benchOf}
+
+-- the state of the rules after a list of calls
+unfoldable pub after : Plan → List Call → Network
+after P cs = networkOf (run P cs)
+
+-- the lent hops, the lent book are those of a state
+pub record OfHops (W : Network) (hs : List Hop) : Type 0 where
+  pub whole : 2000 ≤ length hs
+  pub records : take 2000 hs ≡ hopRecords W
+
+pub record OfBook (W : Network) (book : List ℕ) : Type 0 where
+  pub whole : 6400 ≤ length book
+  pub numbers : take 6400 book ≡ logBook W
+
+-- ---- fresh: on these units, groups and parents, lent `hops` and `book`, which become `hops-left` and `book-left`
+
+pub record FreshPromise (units count : ℕ) (groups parents : List ℕ) (hops : List Hop) (book : List ℕ)
+    (r : FreshReply) (left : Bench) (hops-left : List Hop) (book-left : List ℕ) : Type 0 where
+  pub short : (length hops < 2000) ⊎ (length book < 6400) → (freshAnswer r ≡ 1 ∷ []) × (hops-left ≡ hops) × (book-left ≡ book)
+  pub whole : 2000 ≤ length hops → 6400 ≤ length book → (freshAnswer r ≡ [])
+      × (hops-left ≡ hopRecords fresh ++ drop 2000 hops) × (book-left ≡ logBook fresh ++ drop 6400 book)
+  -- document 01 does not say which bench stands beside a refusal: it is the same
+  pub bench : left ≡ benchOf (record { units = units; count = count; groups = groups; parents = parents }) fresh
+
+-- ---- send
+
+-- what a send answers and leaves is the rule's outcome o
+pub record SentAs (P : Plan) (o : Outcome) (hops : List Hop) (r : SendReply) (left : Bench) (hops-left : List Hop) : Type 0 where
+  pub answer : sendAnswer r ≡ answerOf o
+  pub bench : left ≡ benchOf P (leftOf o)
+  pub records : hops-left ≡ hopRecords (leftOf o) ++ drop 2000 hops
+
+pub record SendPromise (b : Bench) (source group word : ℕ) (hops : List Hop) (r : SendReply) (left : Bench) (hops-left : List Hop) : Type 0
+  where
+    -- turned away, whatever it was handed, it leaves the very same values
+    pub refused : (number : ℕ) → sendAnswer r ≡ Refused number → (left ≡ b) × (hops-left ≡ hops)
+    pub short : length hops < 2000 → sendAnswer r ≡ Refused 1
+    pub rule : (P : Plan) → Planned P → (cs : List Call) → b ≡ benchOf P (after P cs) → OfHops (after P cs) hops
+        → SentAs P (send P source group word (after P cs)) hops r left hops-left
+
+-- ---- arrive
+
+pub record ArrivedAs (P : Plan) (o : Outcome) (hops : List Hop) (book : List ℕ)
+    (r : ArriveReply) (left : Bench) (hops-left : List Hop) (book-left : List ℕ) : Type 0 where
+  pub answer : arriveAnswer r ≡ answerOf o
+  pub bench : left ≡ benchOf P (leftOf o)
+  pub records : hops-left ≡ hopRecords (leftOf o) ++ drop 2000 hops
+  pub numbers : book-left ≡ logBook (leftOf o) ++ drop 6400 book
+
+pub record ArrivePromise (b : Bench) (hop : ℕ) (hops : List Hop) (book : List ℕ)
+    (r : ArriveReply) (left : Bench) (hops-left : List Hop) (book-left : List ℕ) : Type 0 where
+  pub refused : (number : ℕ) → arriveAnswer r ≡ Refused number → (left ≡ b) × (hops-left ≡ hops) × (book-left ≡ book)
+  pub short : (length hops < 2000) ⊎ (length book < 6400) → arriveAnswer r ≡ Refused 1
+  pub rule : (P : Plan) → Planned P → (cs : List Call) → b ≡ benchOf P (after P cs) → OfHops (after P cs) hops → OfBook (after P cs) book
+      → ArrivedAs P (arrive P hop (after P cs)) hops book r left hops-left book-left
+
+-- ---- rest
+
+pub record RestPromise (b : Bench) (hops : List Hop) (r : RestReply) : Type 0 where
+  pub short : length hops < 2000 → restAnswer r ≡ RestRefused 1
+  pub rule : (P : Plan) → Planned P → (cs : List Call) → b ≡ benchOf P (after P cs) → OfHops (after P cs) hops
+      → restAnswer r ≡ Rest (quiescent (after P cs))
+
+-- ---- log
+
+-- what log hands back; and what the second call answers
+unfoldable pub handedBack : LogAnswer → List ℕ
+handedBack (LogRefused k) = []
+handedBack (Log l) = l
+
+unfoldable pub lengthAnswer : LogAnswer → LengthAnswer
+lengthAnswer (LogRefused k) = LengthRefused k
+lengthAnswer (Log l) = Length (length l)
+
+-- `part` is the part of the lent book from the row's start to the log's length
+pub record LogPromise (b : Bench) (unit : ℕ) (book part : List ℕ) : Type 0 where
+  pub short : length book < 6400 → part ≡ []
+  pub rule : (P : Plan) → Planned P → (cs : List Call) → b ≡ benchOf P (after P cs) → OfBook (after P cs) book
+      → (part ≡ handedBack (log P unit (length book) (after P cs))) × (part ≡ take (length part) (drop (unit * 200) book))
+
+-- and it is that part of the lent book itself: in the same block of memory, from the byte where the unit's row starts
+pub record LogPlace (b : Bench) (unit : ℕ) (book part : RefT (List ℕ)) : Type 0 where
+  pub rule : (P : Plan) → Planned P → (cs : List Call) → b ≡ benchOf P (after P cs) → OfBook (after P cs) (book .now) → unit < P .units
+      → part .ptr ≡ (book .ptr .0, book .ptr .1 + 2 * (unit * 200))
+
+pub record LengthPromise (b : Bench) (unit : ℕ) (book : List ℕ) (r : LogReply) : Type 0 where
+  pub short : length book < 6400 → logAnswer r ≡ LengthRefused 1
+  pub rule : (P : Plan) → Planned P → (cs : List Call) → b ≡ benchOf P (after P cs) → OfBook (after P cs) book
+      → logAnswer r ≡ lengthAnswer (log P unit (length book) (after P cs))

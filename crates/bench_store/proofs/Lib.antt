@@ -1,0 +1,4 @@
+pub mod ColumnLaws
+pub mod Entries
+pub mod Parts
+pub mod Grids

@@ -1,0 +1,45 @@
+// What a bench is kept in: the limits, sums that stop at 16 bits, lists made of columns, pair counts, and the log book lent by the caller.
+// Every function is total: a place past a list reads as zeros, and nothing is stored there.
+pub mod book;
+pub mod columns;
+pub mod counts;
+
+ghost use mathlib.Core.Path.{_≡_};
+ghost use Rattle.bench_store.specs.Values.{plus as plusOf, byte as byteOf};
+
+// Document 01's limits. This is their one home: all code of the bench reads them here.
+pub struct Limits {}
+
+impl Limits {
+    pub const UNITS: usize = 32;
+
+    pub const GROUPS: usize = 24;
+
+    pub const MESSAGES: usize = 200;
+
+    pub const HOPS: usize = 2000;
+
+    // The numbers of the log book: a row for each unit.
+    pub const BOOK: usize = Limits::UNITS * Limits::MESSAGES;
+}
+
+// The sum, as far as 16 bits hold it.
+pub fn plus(a: u16, b: u16) -> u16
+    ensures { λ r. ⌜ r ≡ plusOf a b ⌝ }
+{
+    let sum = a as u32 + b as u32;
+    if sum < 65536 {
+        return sum as u16;
+    }
+    65535
+}
+
+// A number below 256; 0 for any other.
+pub fn byte(n: u16) -> u8
+    ensures { λ r. ⌜ r ≡ byteOf n ⌝ }
+{
+    if n < 256 {
+        return n as u8;
+    }
+    0
+}

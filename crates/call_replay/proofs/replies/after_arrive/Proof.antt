@@ -1,0 +1,18 @@
+-- The reply is told by its three numbers.
+use Rattle.call_replay.specs.Steps.{afterArrive}
+use Rattle.call_replay.proofs.Threes.{reply-is}
+use borrow.Author.Needs.{needs}
+use Rattle.call_replay.proofs.replies.after_arrive.Statement.{statement}
+use Rattle.call_replay.proofs.replies.after_arrive.Tie as tie
+
+of-arrive-requires : tie.Need-of-arrive-requires
+of-arrive-requires c κs = search needs
+
+returns : tie.Need-returns
+unfolding afterArrive
+returns c =
+    let arg = c .before .before .args .arrived in
+    λ i. record { bench = arg .bench; reply = reply-is (c .of-arrive .result) _ (c .of-arrive .ensures) i }
+
+pub after-arrive-spec : {M : Type 1} → statement M
+after-arrive-spec = tie.close (tie.spec of-arrive-requires returns)

@@ -1,0 +1,18 @@
+-- The reply is told by its three numbers.
+use Rattle.call_replay.specs.Steps.{afterSend}
+use Rattle.call_replay.proofs.Threes.{reply-is}
+use borrow.Author.Needs.{needs}
+use Rattle.call_replay.proofs.replies.after_send.Statement.{statement}
+use Rattle.call_replay.proofs.replies.after_send.Tie as tie
+
+of-send-requires : tie.Need-of-send-requires
+of-send-requires c κs = search needs
+
+returns : tie.Need-returns
+unfolding afterSend
+returns c =
+    let arg = c .before .before .args .sent in
+    λ i. record { bench = arg .bench; reply = reply-is (c .of-send .result) _ (c .of-send .ensures) i }
+
+pub after-send-spec : {M : Type 1} → statement M
+after-send-spec = tie.close (tie.spec of-send-requires returns)

@@ -1,6 +1,0 @@
-pub mod Replies
-pub mod Machine
-pub mod State
-pub mod Promises
-pub mod Chains
-pub mod Impostors

@@ -5,6 +5,7 @@ use mathlib.Core.List.{List}
 use lib.Dec.{eqb}
 use Rattle.bench_promises.specs.declared.Totals.{Totals}
 use Rattle.bench_promises.specs.declared.arrival.Arrival.{Arrival}
+use Rattle.bench_promises.specs.declared.replies.ArriveReply.the-variants.{Held}
 use Rattle.bench_promises.specs.Machine.{sentReply, recordedTotals, closedReply, finishedTotals, finishedReply}
 use Rattle.bench_engine.specs.declared.Sent.{Sent}
 use Rattle.bench_engine.specs.declared.Arrived.{Arrived}
@@ -20,6 +21,9 @@ sentAs t ts g = record { totals = recordedTotals t ts g; reply = sentReply t 0 }
 
 unfoldable pub closedAs : Totals → ℕ → Arrived
 closedAs t number = record { totals = t; reply = closedReply number }
+
+unfoldable pub heldAs : Totals → Arrived
+heldAs t = record { totals = t; reply = Held }
 
 unfoldable pub arrivedAs : Totals → Arrival → Arrived
 arrivedAs t a = record { totals = finishedTotals t a; reply = finishedReply a }

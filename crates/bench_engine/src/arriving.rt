@@ -11,16 +11,16 @@ use bench_store::columns::Messages;
 use bench_store::counts;
 use bench_store::counts::PairCounts;
 ghost use mathlib.Core.Path.{_≡_};
-ghost use mathlib.Core.Bool.{cond};
+ghost use mathlib.Core.Bool.{not};
 ghost use Prim.Native.Nat.{_-_};
-ghost use Rattle.bench_store.specs.Values.{rowIn};
+ghost use Rattle.bench_store.specs.Values.{countIn};
 ghost use Rattle.bench_promises.specs.Machine.{arriveRefusal, isClosed, closedReply, isNext, begun as begunAt, deliveryTo, logCopy};
-ghost use Rattle.bench_promises.specs.Machine.{outgoing as outgoingOf, longerBy, afterCopy, takeArrival, takeRow, takeHops, takeBook};
+ghost use Rattle.bench_promises.specs.Machine.{outgoing as outgoingOf, longerBy, afterCopy, takeArrival, takePairs, takeHops, takeBook};
 ghost use Rattle.bench_promises.specs.Machine.{searchFrom, searchEnd, movedTo, nextArrival, isGoing as goes, settledFrom};
 ghost use Rattle.bench_promises.specs.Machine.{finishedTotals, finishedPairs, finishedGauges, finishedReply};
 ghost use Rattle.bench_promises.specs.State.{bench};
 ghost use Rattle.bench_promises.specs.Promises.{ArrivePromise};
-ghost use Rattle.bench_engine.specs.Steps.{closedAs, arrivedAs};
+ghost use Rattle.bench_engine.specs.Steps.{closedAs, heldAs, arrivedAs};
 
 // The place of a hop's record.
 fn place_of(hop: u16) -> usize
@@ -78,11 +78,30 @@ fn closed(t: Totals, refusal: u8) -> Arrived
     }
 }
 
-// Whether the hop is the next of its pair.
-fn is_next(taken: u16, hop: model::Hop) -> bool
-    ensures { λ r. ⌜ r ≡ isNext taken hop ⌝ }
+// How many hops of the pair of a hop were taken.
+fn taken_of(h: model::Hop, pairs: &[[[u16; Limits::UNITS]; Limits::UNITS]]) -> u16
+    ensures { λ r. ⌜ r ≡ countIn (now (pairs .entry)) 1 (h .sender) (h .receiver) ⌝ }
 {
-    hop.sequence == bench_store::plus(taken, 1)
+    let s = h.sender as usize;
+    let r = h.receiver as usize;
+    counts::number(pairs, PairCounts::TAKEN, s, r)
+}
+
+// Whether the hop is only held: it is not the next of its pair.
+fn is_held(taken: u16, hop: model::Hop) -> bool
+    ensures { λ r. ⌜ r ≡ not (isNext taken hop) ⌝ }
+{
+    hop.sequence != bench_store::plus(taken, 1)
+}
+
+// What such an arrival answers.
+fn held(t: Totals) -> Arrived
+    ensures { λ r. ⌜ r ≡ heldAs t ⌝ }
+{
+    Arrived {
+        totals: t,
+        reply: ArriveReply::Held,
+    }
 }
 
 // a less b, 0 where b is more.
@@ -95,38 +114,26 @@ fn less(a: u16, b: u16) -> u16
     0
 }
 
-// Where the arrival of a hop begins: at the hop itself if it is the next of its pair, else at the end.
-fn first_place(next: bool, place: usize, end: usize) -> usize
-    ensures { λ r. ⌜ r ≡ cond next place end ⌝ }
-{
-    if next {
-        return place;
-    }
-    end
-}
-
-// The arrival of the hop at a place, whose record is h: at most so many copies are taken.
+// The arrival of the hop at a place, whose record is h: `taken` of its pair were taken, and at most so many copies more are.
 fn begun(
     t: Totals,
     place: usize,
     h: model::Hop,
+    taken: u16,
     copies: usize,
     pairs: &[[[u16; Limits::UNITS]; Limits::UNITS]],
     gauges: &[u16],
 ) -> Arrival
-    ensures { λ r. ⌜ r ≡ begunAt t (now (pairs .entry)) (now (gauges .entry)) place h copies ⌝ }
+    ensures { λ r. ⌜ r ≡ begunAt t (now (pairs .entry)) (now (gauges .entry)) place h taken copies ⌝ }
 {
     let s = h.sender as usize;
     let r = h.receiver as usize;
     let made = counts::number(pairs, PairCounts::MADE, s, r);
-    let taken = counts::number(pairs, PairCounts::TAKEN, s, r);
-    let next = is_next(taken, h);
-    let end = t.made as usize;
     Arrival {
         sender: h.sender,
         receiver: h.receiver,
-        at: first_place(next, place, end),
-        end,
+        at: place,
+        end: t.made as usize,
         left: less(made, taken),
         taken: 0,
         copies,
@@ -224,19 +231,19 @@ fn after_copy(a: Arrival, d: Delivery, made: u16) -> Arrival
     next
 }
 
-// One copy is taken: its hop, the receiver's log, and the hops to the children, which are counted in the receiver's row.
+// One copy is taken: its hop, the receiver's log, and the hops to the children, which are counted.
 fn take(
     a: Arrival,
     tables: &[u32],
     messages: &mut [u32],
-    row: &mut [u16],
+    pairs: &mut [[[u16; Limits::UNITS]; Limits::UNITS]],
     hops: &mut [model::Hop],
     book: &mut [u16],
 ) -> Arrival
-    ensures { λ r. ⌜ (r ≡ takeArrival (now (tables .entry)) (now (messages .entry)) a (now (row .entry)) (now (hops .entry)))
+    ensures { λ r. ⌜ (r ≡ takeArrival (now (tables .entry)) (now (messages .entry)) a (now (pairs .entry)) (now (hops .entry)))
         × (now (messages .exit) ≡ now (messages .entry))
-        × (now (row .exit) ≡ takeRow (now (tables .entry)) (now (messages .entry)) a (now (row .entry)) (now (hops .entry)))
-        × (now (hops .exit) ≡ takeHops (now (tables .entry)) (now (messages .entry)) a (now (row .entry)) (now (hops .entry)))
+        × (now (pairs .exit) ≡ takePairs (now (tables .entry)) (now (messages .entry)) a (now (pairs .entry)) (now (hops .entry)))
+        × (now (hops .exit) ≡ takeHops (now (tables .entry)) (now (messages .entry)) a (now (pairs .entry)) (now (hops .entry)))
         × (now (book .exit) ≡ takeBook (now (tables .entry)) (now (messages .entry)) a (now (hops .entry)) (now (book .entry))) ⌝ }
 {
     let at = place(a);
@@ -246,7 +253,7 @@ fn take(
     let d = delivery_to(to, m, tables, messages);
     log_copy(a, d, book);
     let start = outgoing(a, d);
-    let made = hops::forward(hops, row, start);
+    let made = hops::forward(hops, pairs, start);
     after_copy(a, d, made)
 }
 
@@ -270,16 +277,16 @@ fn search_end(a: Arrival) -> usize
     a.end
 }
 
-// The arrival with the place of the pair's next hop, if that is held.
-fn moved(a: Arrival, place: usize, hop: model::Hop) -> Arrival
-    ensures { λ r. ⌜ r ≡ movedTo a place hop ⌝ }
+// The arrival with the place of the pair's next hop, if that, by its state, is held.
+fn moved(a: Arrival, place: usize, state: u8) -> Arrival
+    ensures { λ r. ⌜ r ≡ movedTo a place state ⌝ }
 {
     let mut next = a;
     next.at = a.end;
     if a.left == 0 {
         return next;
     }
-    if hop.state == 1 {
+    if state == 1 {
         next.at = place;
     }
     next
@@ -294,8 +301,8 @@ fn next(a: Arrival, hops: &[model::Hop]) -> Arrival
     let s = sender(a);
     let r = receiver(a);
     let place = hops::next_of_pair(hops, s, r, from, end);
-    let hop = hops::read(hops, place);
-    moved(a, place, hop)
+    let state = hops::state_at(hops, place);
+    moved(a, place, state)
 }
 
 // As long as the next hop of the pair is held, it is taken, up to the arrival's number of copies.
@@ -303,33 +310,26 @@ fn settle(
     start: Arrival,
     tables: &[u32],
     messages: &mut [u32],
-    row: &mut [u16],
+    pairs: &mut [[[u16; Limits::UNITS]; Limits::UNITS]],
     hops: &mut [model::Hop],
     book: &mut [u16],
 ) -> Arrival
-    ensures { λ r. ⌜ (r ≡ settledFrom (now (tables .entry)) (now (messages .entry)) start (now (row .entry)) (now (hops .entry))
+    ensures { λ r. ⌜ (r ≡ settledFrom (now (tables .entry)) (now (messages .entry)) start (now (pairs .entry)) (now (hops .entry))
         (now (book .entry)) .arrival)
         × (now (messages .exit) ≡ now (messages .entry))
-        × (now (row .exit) ≡ settledFrom (now (tables .entry)) (now (messages .entry)) start (now (row .entry)) (now (hops .entry))
-        (now (book .entry)) .row)
-        × (now (hops .exit) ≡ settledFrom (now (tables .entry)) (now (messages .entry)) start (now (row .entry)) (now (hops .entry))
+        × (now (pairs .exit) ≡ settledFrom (now (tables .entry)) (now (messages .entry)) start (now (pairs .entry)) (now (hops .entry))
+        (now (book .entry)) .pairs)
+        × (now (hops .exit) ≡ settledFrom (now (tables .entry)) (now (messages .entry)) start (now (pairs .entry)) (now (hops .entry))
         (now (book .entry)) .hops)
-        × (now (book .exit) ≡ settledFrom (now (tables .entry)) (now (messages .entry)) start (now (row .entry)) (now (hops .entry))
+        × (now (book .exit) ≡ settledFrom (now (tables .entry)) (now (messages .entry)) start (now (pairs .entry)) (now (hops .entry))
         (now (book .entry)) .book) ⌝ }
 {
     let mut a = start;
     while is_going(a) {
-        let b = take(a, tables, messages, row, hops, book);
+        let b = take(a, tables, messages, pairs, hops, book);
         a = next(b, hops);
     }
     a
-}
-
-// How many hops were made from the receiver of a hop to each unit.
-fn row_of(hop: model::Hop, pairs: &[[[u16; Limits::UNITS]; Limits::UNITS]]) -> [u16; Limits::UNITS]
-    ensures { λ r. ⌜ r ≡ rowIn (now (pairs .entry)) 0 (hop .receiver) ⌝ }
-{
-    counts::row(pairs, PairCounts::MADE, hop.receiver as usize)
 }
 
 // What an arrival answers.
@@ -357,14 +357,9 @@ fn totals_after(t: Totals, a: Arrival) -> Totals
     }
 }
 
-// The lists: the receiver's hops made, the pair's hops taken, the length of the receiver's log.
-fn update(
-    a: Arrival,
-    row: [u16; Limits::UNITS],
-    pairs: &mut [[[u16; Limits::UNITS]; Limits::UNITS]],
-    gauges: &mut [u16],
-)
-    ensures { λ _. ⌜ (now (pairs .exit) ≡ finishedPairs a row (now (pairs .entry))) ×
+// The lists: the pair's hops taken, the length of the receiver's log.
+fn update(a: Arrival, pairs: &mut [[[u16; Limits::UNITS]; Limits::UNITS]], gauges: &mut [u16])
+    ensures { λ _. ⌜ (now (pairs .exit) ≡ finishedPairs a (now (pairs .entry))) ×
         (now (gauges .exit) ≡ finishedGauges a (now (gauges .entry))) ⌝ }
 {
     if a.taken == 0 {
@@ -372,7 +367,6 @@ fn update(
     }
     let s = a.sender as usize;
     let r = a.receiver as usize;
-    counts::set_row(pairs, PairCounts::MADE, r, row);
     counts::add(pairs, PairCounts::TAKEN, s, r, a.taken);
     columns::set_small_number(gauges, Gauges::LENGTHS, Limits::UNITS, r, a.length);
 }
@@ -381,14 +375,13 @@ fn update(
 fn finished(
     t: Totals,
     a: Arrival,
-    row: [u16; Limits::UNITS],
     pairs: &mut [[[u16; Limits::UNITS]; Limits::UNITS]],
     gauges: &mut [u16],
 ) -> Arrived
     ensures { λ r. ⌜ (r ≡ arrivedAs t a)
-        × (now (pairs .exit) ≡ finishedPairs a row (now (pairs .entry))) × (now (gauges .exit) ≡ finishedGauges a (now (gauges .entry))) ⌝ }
+        × (now (pairs .exit) ≡ finishedPairs a (now (pairs .entry))) × (now (gauges .exit) ≡ finishedGauges a (now (gauges .entry))) ⌝ }
 {
-    update(a, row, pairs, gauges);
+    update(a, pairs, gauges);
     let totals = totals_after(t, a);
     let answer = reply(a);
     Arrived {
@@ -421,9 +414,12 @@ pub fn arrive(
     if is_closed(number, record) {
         return closed(t, number);
     }
-    let start = begun(t, place, record, Limits::HOPS, pairs, gauges);
+    let taken = taken_of(record, pairs);
     hops::set_state(hops, place, 1);
-    let mut row = row_of(record, pairs);
-    let end = settle(start, tables, messages, &mut row, hops, book);
-    finished(t, end, row, pairs, gauges)
+    if is_held(taken, record) {
+        return held(t);
+    }
+    let start = begun(t, place, record, taken, Limits::HOPS, pairs, gauges);
+    let end = settle(start, tables, messages, pairs, hops, book);
+    finished(t, end, pairs, gauges)
 }

@@ -1,6 +1,5 @@
 // The bench on lent lists: the one code of `send`, `arrive`, `rest`, `log` and `log_length`. A bench is its totals, by value, and four
-// lists
-// of the caller's; hops and log book are lent beside them. What each call promises stands in bench_promises/specs/Promises.antt.
+// lists of the caller's; hops and log book are lent beside them. What each call promises stands in bench_promises/specs/Promises.antt.
 //     tables     what is computed of the forest (crate `forest_tables`)
 //     messages   columns of the messages: their sources, groups and words (`Messages` of `bench_store`)
 //     pairs      two arrays of counts of each ordered pair of units: hops made, hops taken (`PairCounts` of `bench_store`)

@@ -10,7 +10,8 @@ use bench_store::counts::PairCounts;
 ghost use mathlib.Core.Path.{_≡_};
 ghost use mathlib.Core.List.{List};
 ghost use Prim.Native.Nat.{ℕ};
-ghost use Rattle.bench_promises.specs.Machine.{sendRefusal, sentReply, firstHop, recordedTotals, recordedMessages, recordedPairs};
+ghost use Rattle.bench_promises.specs.Machine.{sendRefusal, sentReply, sequenceOf, firstHop, recordedTotals, recordedMessages};
+ghost use Rattle.bench_promises.specs.Machine.{recordedPairs};
 ghost use Rattle.bench_promises.specs.State.{bench};
 ghost use Rattle.bench_promises.specs.Promises.{SendPromise};
 ghost use Rattle.bench_engine.specs.Steps.{isRefused, turnedAway, sentAs};
@@ -83,23 +84,15 @@ fn place(t: Totals) -> usize
     t.made as usize
 }
 
-// The hop to the group's primary.
-fn first_hop(
-    t: Totals,
-    source: u16,
-    group: u16,
-    tables: &[u32],
-    pairs: &[[[u16; Limits::UNITS]; Limits::UNITS]],
-) -> model::Hop
-    ensures { λ r. ⌜ r ≡ firstHop t (now (tables .entry)) (now (pairs .entry)) source group ⌝ }
+// The hop to the group's primary, of that number among the hops of its pair.
+fn first_hop(t: Totals, source: u16, group: u16, sequence: u16, tables: &[u32]) -> model::Hop
+    ensures { λ r. ⌜ r ≡ firstHop t (now (tables .entry)) source group sequence ⌝ }
 {
     let top = forest_tables::primary(tables, group as usize);
-    let made = counts::grid(pairs, PairCounts::MADE);
-    let before = counts::count(made, source as usize, top as usize);
     model::Hop {
         sender: bench_store::byte(source),
         receiver: top,
-        sequence: bench_store::plus(before, 1),
+        sequence,
         message: bench_store::plus(t.sent, 1),
         state: 0,
     }
@@ -127,19 +120,18 @@ fn record_message(t: Totals, source: u16, group: u16, word: u16, messages: &mut 
     columns::set_number(messages, Messages::WORDS, Limits::MESSAGES, at, word as u32);
 }
 
-// Its hop is counted.
+// The hop to the group's primary is counted: its number among the hops of its pair.
 fn count_hop(
     source: u16,
     group: u16,
     tables: &[u32],
     pairs: &mut [[[u16; Limits::UNITS]; Limits::UNITS]],
-)
-    ensures { λ _. ⌜ now (pairs .exit) ≡ recordedPairs (now (tables .entry)) source group (now (pairs .entry)) ⌝ }
+) -> u16
+    ensures { λ r. ⌜ (r ≡ sequenceOf (now (tables .entry)) source group (now (pairs .entry)))
+        × (now (pairs .exit) ≡ recordedPairs (now (tables .entry)) source group (now (pairs .entry))) ⌝ }
 {
     let top = forest_tables::primary(tables, group as usize);
-    let before = counts::grid(pairs, PairCounts::MADE);
-    let made = counts::raised(before, source as usize, top as usize);
-    counts::set_grid(pairs, PairCounts::MADE, made);
+    counts::raise_by_value(pairs, PairCounts::MADE, source as usize, top as usize)
 }
 
 // The totals with the message and its hop.
@@ -155,7 +147,7 @@ fn recorded(t: Totals, group: u16, tables: &[u32]) -> Totals
     }
 }
 
-// What a send that is not turned away answers and leaves.
+// What a send that is not turned away answers, and the messages it leaves.
 fn finished(
     t: Totals,
     source: u16,
@@ -163,14 +155,11 @@ fn finished(
     word: u16,
     tables: &[u32],
     messages: &mut [u32],
-    pairs: &mut [[[u16; Limits::UNITS]; Limits::UNITS]],
 ) -> Sent
     ensures { λ r. ⌜ (r ≡ sentAs t (now (tables .entry)) group)
-        × (now (messages .exit) ≡ recordedMessages t source group word (now (messages .entry)))
-        × (now (pairs .exit) ≡ recordedPairs (now (tables .entry)) source group (now (pairs .entry))) ⌝ }
+        × (now (messages .exit) ≡ recordedMessages t source group word (now (messages .entry))) ⌝ }
 {
     record_message(t, source, group, word, messages);
-    count_hop(source, group, tables, pairs);
     let next = recorded(t, group, tables);
     let answer = reply(t, 0);
     Sent {
@@ -199,8 +188,9 @@ pub fn send(
     if is_refused(number) {
         return turned_away(t, number);
     }
-    let hop = first_hop(t, source, group, tables, pairs);
+    let sequence = count_hop(source, group, tables, pairs);
+    let hop = first_hop(t, source, group, sequence, tables);
     let at = place(t);
     hops::append(hops, at, hop);
-    finished(t, source, group, word, tables, messages, pairs)
+    finished(t, source, group, word, tables, messages)
 }

@@ -26,19 +26,19 @@ use Rattle.model.proofs.Runs.{Valid}
 use Rattle.model.proofs.Theorems.{valid-limits}
 use Rattle.model.proofs.Progress.{TakenFirst, taken-first-hold, taken-within, count-pair-state, hold-taken, hold-taken-all, hold-next}
 use Rattle.model.proofs.Progress.{hold-idle}
-use Rattle.bench_store.specs.Values.{plus, added, columnAt, withColumn, countOf, countIn, addedIn, rowIn, withRowIn}
+use Rattle.bench_store.specs.Values.{plus, columnAt, withColumn, countIn, addedIn}
 use Rattle.bench_promises.specs.declared.arrival.Arrival.{Arrival}
 use Rattle.bench_promises.specs.Machine.{arriveRefusal, isClosed, closedReply, isNext, begun, Settling, settled, settledFrom}
 use Rattle.bench_promises.specs.Machine.{finishedTotals, finishedPairs, finishedGauges, finishedReply, arriveEnd}
 use Rattle.bench_promises.specs.declared.replies.ArriveReply.the-variants.{Taken as TakenNumber, Held as HeldHop}
 use Rattle.bench_promises.specs.Replies.{arriveAnswer}
 use Rattle.bench_promises.specs.State.{Bench, hopRecords, logBook, pairTable, messageList, totalsOf, benchOf}
-use Rattle.bench_promises.proofs.Padding.{plus-small, tabulate-at, tabulate-same, tabulate-set, pair-in, row-at, count-at, pair-set}
-use Rattle.bench_promises.proofs.Padding.{pair-same, pair-added}
+use Rattle.bench_promises.proofs.Padding.{plus-small, tabulate-at, tabulate-set, count-at, pair-same, pair-added}
 use Rattle.bench_promises.proofs.Sends.{tablesAt, count-few}
-use Rattle.bench_promises.proofs.Copies.{arrivalOf, rowFor, record-at, record-state}
+use Rattle.bench_promises.proofs.Copies.{arrivalOf, record-at, record-state}
+use Rattle.bench_promises.proofs.Forwards.{pairsOf}
 use Rattle.bench_promises.proofs.Searches.{PairBelow}
-use Rattle.bench_promises.proofs.Settles.{Since, settlingOf, Ends, Before, loops}
+use Rattle.bench_promises.proofs.Settles.{Since, settlingOf, Ends, idle-settle, Before, loops}
 
 -- the bench once an arrival is over
 abbrev pub arrivedBench : Bench → Settling → Bench
@@ -46,11 +46,15 @@ arrivedBench b x = record {
   totals = finishedTotals (b .totals) (x .arrival);
   tables = b .tables;
   messages = b .messages;
-  pairs = finishedPairs (x .arrival) (x .row) (b .pairs);
+  pairs = finishedPairs (x .arrival) (x .pairs);
   gauges = finishedGauges (x .arrival) (b .gauges);
 }
 
--- where the arrival of hop j ends
+-- whether hop j is the next of its pair
+abbrev pub nextAt : Bench → ℕ → List Hop → Bool
+nextAt b j hs = isNext (countIn (b .pairs) 1 (hopAt hs j .sender) (hopAt hs j .receiver)) (hopAt hs j)
+
+-- where its arrival ends, if it is
 abbrev pub endAt : Bench → ℕ → List Hop → List ℕ → Settling
 endAt b j hs book = arriveEnd (b .totals) (b .tables) (b .messages) (b .pairs) (b .gauges) j hs book
 
@@ -71,7 +75,13 @@ module _ (P : Plan) (forest : Forest P) (ms : List Message) (hs : List Hop) (ls 
   abbrev number : ℕ
   number = arriveRefusal (length hs) j (length lent) (length book)
 
-  -- what an arrival of a hop that is out answers and leaves is the rule's outcome o
+  -- what an arrival of a hop that is out answers and leaves is the rule's outcome o: one that is only held, and one that is the next
+  pub record Holds (o : Outcome) : Type 0 where
+    pub answer : arriveAnswer HeldHop ≡ answerOf o
+    pub bench : b ≡ benchOf P (leftOf o)
+    pub hops : setState j 1 lent ≡ hopRecords (leftOf o) ++ rest
+    pub numbers : book ≡ logBook (leftOf o) ++ rest′
+
   pub record Arrives (o : Outcome) : Type 0 where
     pub answer : arriveAnswer (finishedReply (endAt b j lent book .arrival)) ≡ answerOf o
     pub bench : arrivedBench b (endAt b j lent book) ≡ benchOf P (leftOf o)
@@ -81,7 +91,8 @@ module _ (P : Plan) (forest : Forest P) (ms : List Message) (hs : List Hop) (ls 
   -- the refusal with this number, or 0, and the rule's outcome agree
   pub record Agree (o : Outcome) : Type 0 where
     pub shut : isClosed number (hopAt lent j) ≡ true → (leftOf o ≡ W) × (arriveAnswer (closedReply number) ≡ answerOf o)
-    pub out : isClosed number (hopAt lent j) ≡ false → Arrives o
+    pub held : isClosed number (hopAt lent j) ≡ false → nextAt b j lent ≡ false → Holds o
+    pub out : isClosed number (hopAt lent j) ≡ false → nextAt b j lent ≡ true → Arrives o
 
   limits : Limits P W
   limits = valid-limits P forest W valid
@@ -92,7 +103,7 @@ module _ (P : Plan) (forest : Forest P) (ms : List Message) (hs : List Hop) (ls 
 
   unchanged : (o : Outcome) → leftOf o ≡ W → isClosed number (hopAt lent j) ≡ true → arriveAnswer (closedReply number) ≡ answerOf o → Agree
       o
-  unchanged o left t answer = record { shut = λ e. (left, answer); out = λ e. absurd (clash t e) }
+  unchanged o left t answer = record { shut = λ e. (left, answer); held = λ e _. absurd (clash t e); out = λ e _. absurd (clash t e) }
 
   module _ (whole : 2000 ≤ length lent) (whole′ : 6400 ≤ length book) where
     number-is : number ≡ refuse (leb (length hs) j) 16 0
@@ -144,17 +155,22 @@ module _ (P : Plan) (forest : Forest P) (ms : List Message) (hs : List Hop) (ls 
         unfolding hopsOf
         to-r = limits .records j made .receiver
 
-        -- where the loop begins
-        abbrev at : ℕ
-        at = cond (isNext (pairTaken s r hs) (hopAt hs j)) j (length hs)
+        -- the hops taken of each pair
+        abbrev takes : List (List ℕ)
+        takes = pairTable (λ x y. pairTaken x y hs)
 
         made-at : countIn (b .pairs) 0 s r ≡ pairCount s r hs
-        unfolding countIn countOf benchOf hopsOf
-        made-at = count-at (λ x y. pairCount x y hs) s r to-s to-r
+        unfolding benchOf hopsOf
+        made-at = count-at _ 0 (λ x y. pairCount x y hs) s r refl refl to-s to-r
 
         taken-at : countIn (b .pairs) 1 s r ≡ pairTaken s r hs
-        unfolding countIn countOf benchOf hopsOf
-        taken-at = count-at (λ x y. pairTaken x y hs) s r to-s to-r
+        unfolding benchOf hopsOf
+        taken-at = count-at _ 1 (λ x y. pairTaken x y hs) s r refl refl to-s to-r
+
+        next-is : nextAt b j lent ≡ isNext (pairTaken s r hs) (hopAt hs j)
+        next-is =
+            ap (λ (h : Hop). isNext (countIn (b .pairs) 1 (h .sender) (h .receiver)) h) hop-is
+            ∙ ap (λ (k : ℕ). isNext k (hopAt hs j)) taken-at
 
         hold-takes : (x y : ℕ) → pairTaken x y (setState j 1 hs) ≡ pairTaken x y hs
         hold-takes x y = hold-taken x y j hs made out
@@ -163,12 +179,15 @@ module _ (P : Plan) (forest : Forest P) (ms : List Message) (hs : List Hop) (ls 
         unfolding columnAt benchOf tabulate logOf
         length-at = tabulate-at 32 (λ u. length (getD ls u [])) r 0 to-r
 
-        start-is : begun (b .totals) (b .pairs) (b .gauges) j (hopAt lent j) 2000 ≡ arrivalOf W₁ s r at (length hs) 0
+        abbrev start : Hop → Arrival
+        start h = begun (b .totals) (b .pairs) (b .gauges) j h (countIn (b .pairs) 1 (h .sender) (h .receiver)) 2000
+
+        start-is : start (hopAt lent j) ≡ arrivalOf W₁ s r j (length hs) 0
         unfolding begun arrivalOf benchOf totalsOf hopsOf
-        start-is = ap (λ (h : Hop). begun (b .totals) (b .pairs) (b .gauges) j h 2000) hop-is ∙ (λ i. record {
+        start-is = ap start hop-is ∙ (λ i. record {
           sender = s;
           receiver = r;
-          at = ap (λ (k : ℕ). cond (isNext k (hopAt hs j)) j (length hs)) taken-at i;
+          at = j;
           end = length hs;
           left = left-is i;
           taken = 0;
@@ -181,12 +200,9 @@ module _ (P : Plan) (forest : Forest P) (ms : List Message) (hs : List Hop) (ls 
                 (setState j 1 hs)
             left-is = omega (arith, made-at, taken-at, count-pair-state s r j 1 hs, hold-takes s r)
 
-        row-is : rowIn (b .pairs) 0 (hopAt lent j .receiver) ≡ rowFor W₁ r
-        unfolding rowIn rowFor benchOf hopsOf
-        row-is =
-            ap (λ (h : Hop). rowIn (b .pairs) 0 (h .receiver)) hop-is
-            ∙ cond-true _ _ _ (lt-ltb r 32 to-r) ∙ row-at (λ x y. pairCount x y hs) r to-r
-            ∙ tabulate-same 32 _ _ (λ c k. sym (count-pair-state r c j 1 hs))
+        pairs-are : b .pairs ≡ pairsOf (setState j 1 hs) takes
+        unfolding pairsOf benchOf hopsOf
+        pairs-are = λ i. pair-same _ _ (λ x y bx by. sym (count-pair-state x y j 1 hs)) i ∷ takes ∷ []
 
         -- ---- the loop
 
@@ -206,49 +222,9 @@ module _ (P : Plan) (forest : Forest P) (ms : List Message) (hs : List Hop) (ls 
         unfolding Valid
         numbers = valid ms [] (sym (append-nil ms)) .numbers
 
-        begins : Before P forest W₁ s r (length hs) few-hops rest rest′ W₁ at 0
-        unfolding Valid hopsOf PairBelow
-        begins = ⊎-elim
-            (λ t.
-            let here : at ≡ j = cond-true (isNext (pairTaken s r hs) (hopAt hs j)) j (length hs) t in
-            ready (omega (arith, here, made))
-            (λ b. subst (Next s r (setState j 1 hs)) (sym here)
-            (hold-next s r hs numbers first j made out (own-pair (hopAt hs j)) (is-next t)))
-            (λ over. absurd (omega (arith, here, made))))
-            (λ t.
-            let there : at ≡ length hs = cond-false (isNext (pairTaken s r hs) (hopAt hs j)) j (length hs) t in
-            ready (omega (arith, there))
-            (λ b. absurd (omega (arith, there)))
-            (λ over. hold-idle s r hs numbers first j made out (own-pair (hopAt hs j)) (idle s r) (not-next t)))
-            (either (isNext (pairTaken s r hs) (hopAt hs j)))
-          where
-            ready : at ≤ length hs → (at < length hs → Next s r (setState j 1 hs) at) → (length hs ≤ at → Idle (setState j 1 hs) s r)
-                → Before P forest W₁ s r (length hs) few-hops rest rest′ W₁ at 0
-            ready until next idle′ = record {
-              valid = λ T after e. sound-held P forest T ms hs ls (valid T after e) j made (out-untaken (hopAt hs j) out);
-              first = taken-first-hold j hs made out first;
-              below = λ i b p. omega (arith, b, length-state j 1 hs);
-              next = next;
-              idle = idle′;
-              until = until;
-              few = omega arith;
-              since = record {
-                none = λ e. refl;
-                messages = refl;
-                counts = λ x y ne. refl;
-                others = λ x y ne. refl;
-                own = omega arith;
-                all = omega arith;
-                logs = λ u ne. refl;
-              };
-            }
-
-        E : Ends W₁ s r (length hs) rest rest′
-            (settled (tablesAt P) (messageList ms) (length hs - at) (arrivalOf W₁ s r at (length hs) 0) (rowFor W₁ r)
-            (hopRecords W₁ ++ rest) (logBook W₁ ++ rest′))
-            (settle (length hs) P s r 0 W₁)
-        E = loops P forest W₁ s r (length hs) few-hops rest rest′ (length hs - at) (length hs) ms (setState j 1 hs) ls at 0 begins
-            (omega arith) (omega arith)
+        held-valid : Valid P forest W₁
+        unfolding Valid
+        held-valid = λ T after e. sound-held P forest T ms hs ls (valid T after e) j made (out-untaken (hopAt hs j) out)
 
         held-hops : setState j 1 lent ≡ hopRecords W₁ ++ rest
         unfolding hopRecords hopsOf
@@ -258,32 +234,7 @@ module _ (P : Plan) (forest : Forest P) (ms : List Message) (hs : List Hop) (ls 
         unfolding logBook logOf
         same-book = refl
 
-        end-is : endAt b j lent book ≡ settlingOf (E .state) s r (E .place) (length hs) (E .taken) rest rest′
-        unfolding arriveEnd settledFrom arrivalOf benchOf messagesOf
-        end-is =
-            ap (λ (x : Arrival). settled (tablesAt P) (messageList ms) (x .end - x .at) x (rowIn (b .pairs) 0 (hopAt lent j .receiver))
-            (setState j 1 lent) book) start-is
-            ∙ ap (λ (l : List ℕ). settled (tablesAt P) (messageList ms) (length hs - at) (arrivalOf W₁ s r at (length hs) 0) l
-            (setState j 1 lent) book) row-is
-            ∙ ap (λ (l : List Hop). settled (tablesAt P) (messageList ms) (length hs - at) (arrivalOf W₁ s r at (length hs) 0)
-            (rowFor W₁ r) l book) held-hops
-            ∙ ap (settled (tablesAt P) (messageList ms) (length hs - at) (arrivalOf W₁ s r at (length hs) 0) (rowFor W₁ r)
-            (hopRecords W₁ ++ rest)) same-book
-            ∙ E .loop
-
         -- ---- the bench
-
-        abbrev W″ : Network
-        W″ = E .state
-
-        abbrev n : ℕ
-        n = E .taken
-
-        abbrev end : Settling
-        end = settlingOf W″ s r (E .place) (length hs) n rest rest′
-
-        S : Since W₁ W″ s r n
-        S = E .since
 
         hold-totals : totalsOf P W₁ ≡ totalsOf P W
         unfolding totalsOf messagesOf hopsOf
@@ -304,103 +255,165 @@ module _ (P : Plan) (forest : Forest P) (ms : List Message) (hs : List Hop) (ls 
           gauges = b .gauges;
         }
 
-        own-total : pairTaken s r (hopsOf W″) ≡ pairTaken s r hs + n
-        unfolding hopsOf
-        own-total = S .own ∙ ap (λ (k : ℕ). k + n) (hold-takes s r)
+        -- ---- it is not the next of its pair: it is held
 
-        total : countHops isTaken (hopsOf W″) ≡ countHops isTaken hs + n
-        unfolding hopsOf
-        total = S .all ∙ ap (λ (k : ℕ). k + n) (hold-taken-all j hs made out)
+        holds : isNext (pairTaken s r hs) (hopAt hs j) ≡ false → Holds (settle (length hs) P s r 0 W₁)
+        unfolding Valid leftOf answerOf tally arriveAnswer
+        holds t = subst Holds
+            (sym (idle-settle (length hs) P s r 0 ms (setState j 1 hs) ls (held-valid ms [] (sym (append-nil ms)) .numbers)
+            (hold-idle s r hs numbers first j made out (own-pair (hopAt hs j)) (idle s r) (not-next t))))
+            (record { answer = refl; bench = sym hold-bench; hops = held-hops; numbers = same-book })
 
-        few-taken : pairTaken s r hs + n < 65536
-        few-taken = omega (
-          arith,
-          own-total,
-          taken-within s r (hopsOf W″),
-          count-few s r (hopsOf W″),
-          E .few,
-        )
+        -- ---- it is: its pair is settled
 
-        all-taken : countHops isTaken hs + n < 65536
-        all-taken = omega (arith, total, count-length isTaken (hopsOf W″), E .few)
+        module _ (next : isNext (pairTaken s r hs) (hopAt hs j) ≡ true) where
+          begins : Before P forest W₁ s r (length hs) few-hops rest rest′ takes W₁ j 0
+          unfolding hopsOf PairBelow
+          begins = record {
+            valid = held-valid;
+            first = taken-first-hold j hs made out first;
+            below = λ i b p. omega (arith, b, length-state j 1 hs);
+            next = λ b. hold-next s r hs numbers first j made out (own-pair (hopAt hs j)) (is-next next);
+            idle = λ over. absurd (omega (arith, over, made));
+            until = omega (arith, made);
+            few = omega arith;
+            since = record {
+              none = λ e. refl;
+              messages = refl;
+              others = λ x y ne. refl;
+              own = omega arith;
+              all = omega arith;
+              logs = λ u ne. refl;
+            };
+          }
 
-        counts-updated : set (pairTable (λ x y. pairCount x y hs)) r (rowFor W″ r) ≡ pairTable (λ x y. pairCount x y (hopsOf W″))
-        unfolding rowFor hopsOf
-        counts-updated =
-            pair-set (λ x y. pairCount x y hs) (λ x y. pairCount x y (hopsOf W″)) r _ to-r refl
-            (λ x y bx by ne. S .counts x y ne ∙ count-pair-state x y j 1 hs)
+          E : Ends W₁ s r (length hs) rest rest′ takes
+              (settled (tablesAt P) (messageList ms) (length hs - j) (arrivalOf W₁ s r j (length hs) 0) (pairsOf (setState j 1 hs) takes)
+              (hopRecords W₁ ++ rest) (logBook W₁ ++ rest′))
+              (settle (length hs) P s r 0 W₁)
+          E = loops P forest W₁ s r (length hs) few-hops rest rest′ takes (length hs - j) (length hs) ms (setState j 1 hs) ls j 0 begins
+              (omega arith) (omega arith)
 
-        takes-updated : set (pairTable (λ x y. pairTaken x y hs)) s (added (getD (pairTable (λ x y. pairTaken x y hs)) s []) r n)
-            ≡ pairTable (λ x y. pairTaken x y (hopsOf W″))
-        unfolding hopsOf
-        takes-updated =
-            pair-added (λ x y. pairTaken x y hs) (λ x y. pairTaken x y (hopsOf W″)) s r n to-s to-r few-taken own-total
-            (λ y ne. S .others s y (λ e f. ne f) ∙ hold-takes s y)
-            (λ x y ne. S .others x y (λ e f. ne e) ∙ hold-takes x y)
+          end-is : endAt b j lent book ≡ settlingOf (E .state) s r (E .place) (length hs) (E .taken) rest rest′ takes
+          unfolding arriveEnd settledFrom arrivalOf benchOf messagesOf
+          end-is =
+              ap (λ (x : Arrival). settled (tablesAt P) (messageList ms) (x .end - x .at) x (b .pairs) (setState j 1 lent) book) start-is
+              ∙ ap (λ (l : List (List (List ℕ))). settled (tablesAt P) (messageList ms) (length hs - j)
+              (arrivalOf W₁ s r j (length hs) 0) l (setState j 1 lent) book) pairs-are
+              ∙ ap (λ (l : List Hop). settled (tablesAt P) (messageList ms) (length hs - j) (arrivalOf W₁ s r j (length hs) 0)
+              (pairsOf (setState j 1 hs) takes) l book) held-hops
+              ∙ ap (settled (tablesAt P) (messageList ms) (length hs - j) (arrivalOf W₁ s r j (length hs) 0)
+              (pairsOf (setState j 1 hs) takes) (hopRecords W₁ ++ rest)) same-book
+              ∙ E .loop
 
-        pairs-updated : addedIn (withRowIn (b .pairs) 0 r (rowFor W″ r)) 1 s r n ≡ benchOf P W″ .pairs
-        unfolding addedIn withRowIn benchOf hopsOf
-        pairs-updated =
-            ap (λ (l : List (List (List ℕ))). addedIn l 1 s r n) (cond-true _ _ _ (lt-ltb r 32 to-r))
-            ∙ cond-true _ _ _ (pair-in s r to-s to-r) ∙ (λ i. counts-updated i ∷ takes-updated i ∷ [])
+          abbrev W″ : Network
+          W″ = E .state
 
-        gauges-updated : withColumn (b .gauges) 0 32 r (length (logOf r W″)) ≡ benchOf P W″ .gauges
-        unfolding withColumn benchOf logOf tabulate
-        gauges-updated =
-            append-nil (set (tabulate 32 (λ u. length (logOf u W))) r (length (logOf r W″)))
-            ∙ tabulate-set 32 (λ u. length (logOf u W)) (λ u. length (logOf u W″)) r _ to-r refl (λ u bu ne. ap length (S .logs u ne))
+          abbrev n : ℕ
+          n = E .taken
 
-        totals-updated : record {
-          made = length (hopsOf W″);
-          taken = plus (b .totals .taken) n;
-          sent = b .totals .sent;
-          routed = b .totals
-              .routed;
-        } ≡ totalsOf P W″
-        unfolding benchOf totalsOf messagesOf hopsOf
-        totals-updated = λ i. record {
-          made = length (hopsOf W″);
-          taken = (plus-small (countHops isTaken hs) n all-taken ∙ sym total) i;
-          sent = length (sym (S .messages) i);
-          routed = routeTotal P (sym (S .messages) i);
-        }
+          abbrev end : Settling
+          end = settlingOf W″ s r (E .place) (length hs) n rest rest′ takes
 
-        messages-same : b .messages ≡ benchOf P W″ .messages
-        unfolding benchOf messagesOf
-        messages-same = ap messageList (sym (S .messages))
+          S : Since W₁ W″ s r n
+          S = E .since
 
-        bench-finished : arrivedBench b end ≡ benchOf P W″
-        unfolding finishedTotals finishedPairs finishedGauges settlingOf arrivalOf benchOf
-        bench-finished = ⊎-elim
-            (λ (t : eqb n 0 ≡ true). simp t (sym hold-bench ∙ ap (benchOf P) (sym (S .none (eqb-true n 0 t)))))
-            (λ (t : eqb n 0 ≡ false). simp t (λ i. record {
-              totals = totals-updated i;
-              tables = tablesAt P;
-              messages = messages-same i;
-              pairs = pairs-updated i;
-              gauges = gauges-updated i;
-            }))
-            (either (eqb n 0))
+          own-total : pairTaken s r (hopsOf W″) ≡ pairTaken s r hs + n
+          unfolding hopsOf
+          own-total = S .own ∙ ap (λ (k : ℕ). k + n) (hold-takes s r)
 
-        answers : arriveAnswer (finishedReply (end .arrival)) ≡ tally n
-        unfolding finishedReply settlingOf arrivalOf refuse arriveAnswer tally
-        answers = said n
-          where
-            said : (k : ℕ) → arriveAnswer (refuse (eqb k 0) HeldHop (TakenNumber k)) ≡ tally k
-            said zero = refl
-            said (suc k) = ap (λ (t : Bool). arriveAnswer (refuse t HeldHop (TakenNumber (suc k))))
-                (ne-eqb (suc k) 0 (λ e. absurd (omega arith)))
+          total : countHops isTaken (hopsOf W″) ≡ countHops isTaken hs + n
+          unfolding hopsOf
+          total = S .all ∙ ap (λ (k : ℕ). k + n) (hold-taken-all j hs made out)
 
-        settles : Agree (settle (length hs) P s r 0 W₁)
-        unfolding leftOf answerOf settlingOf
-        settles = record {
-          shut = λ e. absurd (clash e (closed-is ∙ ap not out));
-          out = λ e. subst Arrives (sym (E .rule)) (record {
+          few-taken : pairTaken s r hs + n < 65536
+          few-taken = omega (
+            arith,
+            own-total,
+            taken-within s r (hopsOf W″),
+            count-few s r (hopsOf W″),
+            E .few,
+          )
+
+          all-taken : countHops isTaken hs + n < 65536
+          all-taken = omega (arith, total, count-length isTaken (hopsOf W″), E .few)
+
+          pairs-updated : addedIn (pairsOf (hopsOf W″) takes) 1 s r n ≡ benchOf P W″ .pairs
+          unfolding pairsOf benchOf hopsOf
+          pairs-updated =
+              pair-added _ 1 (λ x y. pairTaken x y hs) (λ x y. pairTaken x y (hopsOf W″)) s r n refl refl to-s to-r few-taken own-total
+              (λ y ne. S .others s y (λ e f. ne f) ∙ hold-takes s y)
+              (λ x y ne. S .others x y (λ e f. ne e) ∙ hold-takes x y)
+
+          gauges-updated : withColumn (b .gauges) 0 32 r (length (logOf r W″)) ≡ benchOf P W″ .gauges
+          unfolding withColumn benchOf logOf tabulate
+          gauges-updated =
+              append-nil (set (tabulate 32 (λ u. length (logOf u W))) r (length (logOf r W″)))
+              ∙ tabulate-set 32 (λ u. length (logOf u W)) (λ u. length (logOf u W″)) r _ to-r refl (λ u bu ne. ap length (S .logs u ne))
+
+          totals-updated : record {
+            made = length (hopsOf W″);
+            taken = plus (b .totals .taken) n;
+            sent = b .totals .sent;
+            routed = b .totals
+                .routed;
+          } ≡ totalsOf P W″
+          unfolding benchOf totalsOf messagesOf hopsOf
+          totals-updated = λ i. record {
+            made = length (hopsOf W″);
+            taken = (plus-small (countHops isTaken hs) n all-taken ∙ sym total) i;
+            sent = length (sym (S .messages) i);
+            routed = routeTotal P (sym (S .messages) i);
+          }
+
+          messages-same : b .messages ≡ benchOf P W″ .messages
+          unfolding benchOf messagesOf
+          messages-same = ap messageList (sym (S .messages))
+
+          -- the bench with other counts
+          abbrev withPairs : List (List (List ℕ)) → Bench
+          withPairs ps =
+              record { totals = b .totals; tables = b .tables; messages = b .messages; pairs = ps; gauges = b .gauges }
+
+          abbrev Same : Network → Type 0
+          Same X = withPairs (pairsOf (hopsOf X) takes) ≡ benchOf P X
+
+          bench-finished : arrivedBench b end ≡ benchOf P W″
+          unfolding finishedTotals finishedPairs finishedGauges settlingOf arrivalOf benchOf hopsOf
+          bench-finished = ⊎-elim
+              (λ (t : eqb n 0 ≡ true). simp t (subst Same (sym (S .none (eqb-true n 0 t))) (ap withPairs (sym pairs-are) ∙ sym hold-bench)))
+              (λ (t : eqb n 0 ≡ false). simp t (λ i. record {
+                totals = totals-updated i;
+                tables = tablesAt P;
+                messages = messages-same i;
+                pairs = pairs-updated i;
+                gauges = gauges-updated i;
+              }))
+              (either (eqb n 0))
+
+          answers : arriveAnswer (finishedReply (end .arrival)) ≡ tally n
+          unfolding finishedReply settlingOf arrivalOf refuse arriveAnswer tally
+          answers = said n
+            where
+              said : (k : ℕ) → arriveAnswer (refuse (eqb k 0) HeldHop (TakenNumber k)) ≡ tally k
+              said zero = refl
+              said (suc k) = ap (λ (t : Bool). arriveAnswer (refuse t HeldHop (TakenNumber (suc k))))
+                  (ne-eqb (suc k) 0 (λ e. absurd (omega arith)))
+
+          arrives : Arrives (settle (length hs) P s r 0 W₁)
+          unfolding leftOf answerOf settlingOf
+          arrives = subst Arrives (sym (E .rule)) (record {
             answer = ap (λ (x : Settling). arriveAnswer (finishedReply (x .arrival))) end-is ∙ answers;
             bench = ap (arrivedBench b) end-is ∙ bench-finished;
             hops = ap (λ (x : Settling). x .hops) end-is;
             numbers = ap (λ (x : Settling). x .book) end-is;
-          });
+          })
+
+        settles : Agree (settle (length hs) P s r 0 W₁)
+        settles = record {
+          shut = λ e. absurd (clash e (closed-is ∙ ap not out));
+          held = λ _ t. holds (sym next-is ∙ t);
+          out = λ _ t. arrives (sym next-is ∙ t);
         }
 
     pub agrees : Agree (arrive P j W)

@@ -15,7 +15,6 @@ use lib.Seq.{getD-set-same, getD-set-other}
 use Rattle.sets.specs.Sets.{member, intersection}
 use Rattle.sets.proofs.Bools.{either, cond-true, cond-false}
 use Rattle.sets.proofs.Laws.{member-intersection, member-collect, intersection-below, collect-below, size-below}
-use Rattle.layout.specs.Tables.{tabulate}
 use Rattle.forest.specs.Forest.{parent}
 use Rattle.forest.specs.Claims.{Above, itself, Acyclic}
 use Rattle.model.specs.declared.Hop.{Hop}
@@ -33,17 +32,17 @@ use Rattle.model.proofs.Runs.{Valid, take-valid}
 use Rattle.model.proofs.Theorems.{valid-limits}
 use Rattle.forest_tables.specs.Computed.{isChild, childrenOf, groupIn, routeIn, childrenIn}
 use Rattle.forest_tables.proofs.Columns.{group-in, route-in, children-in as children-column}
-use Rattle.hops.specs.Access.{Forwarding, withCounts, forwarded, forwardedHops}
+use Rattle.hops.specs.Access.{Forwarding, withPairs, forwarded, forwardedHops}
 use Rattle.bench_promises.specs.declared.arrival.Arrival.{Arrival}
 use Rattle.bench_promises.specs.declared.arrival.Delivery.{Delivery}
 use Rattle.bench_promises.specs.Machine.{deliveryTo, logCopy, outgoing, longerBy, afterCopy, deliveryAt, forwarding, takeArrival}
-use Rattle.bench_promises.specs.Machine.{takeRow, takeHops, takeBook}
+use Rattle.bench_promises.specs.Machine.{takePairs, takeHops, takeBook}
 use Rattle.bench_promises.specs.State.{padded, logBook, messageList}
-use Rattle.bench_promises.proofs.Padding.{plus-small, padded-length, padded-set, padded-at, append-set, append-at, tabulate-same}
+use Rattle.bench_promises.proofs.Padding.{plus-small, padded-length, padded-set, padded-at, append-set, append-at, pair-same}
 use Rattle.bench_promises.proofs.Padding.{group-at}
 use Rattle.bench_promises.proofs.Books.{book-log, joined-same}
 use Rattle.bench_promises.proofs.Sends.{tablesAt}
-use Rattle.bench_promises.proofs.Forwards.{rising-same, membersOf, forwardingOf, forwarded-all, listed-all}
+use Rattle.bench_promises.proofs.Forwards.{rising-same, membersOf, pairsOf, forwardingOf, forwarded-all, listed-all}
 
 -- an arrival from s to r that has taken n copies and holds the place `at` of the next, as the state W tells it
 unfoldable pub arrivalOf : Network → (s r at end n : ℕ) → Arrival
@@ -58,10 +57,6 @@ arrivalOf W s r at end n = record {
   length = length (logOf r W);
   made = length (hopsOf W);
 }
-
--- the hops made from r to each unit
-unfoldable pub rowFor : Network → ℕ → List ℕ
-rowFor W r = tabulate 32 (λ c. pairCount r c (hopsOf W))
 
 -- ---- the lent hops
 
@@ -99,7 +94,7 @@ child-apart P forest way s r c i e q =
 -- ---- the copy
 
 module _ (P : Plan) (forest : Forest P) (ms : List Message) (hs : List Hop) (ls : List (List ℕ)) (valid : Valid P forest (network ms hs ls))
-    (s r j : ℕ) (N : Next s r hs j) (rest : List Hop) (rest′ : List ℕ) (end n : ℕ) (few : n < 65535) where
+    (s r j : ℕ) (N : Next s r hs j) (rest : List Hop) (rest′ : List ℕ) (t : List (List ℕ)) (end n : ℕ) (few : n < 65535) where
   abbrev W : Network
   W = network ms hs ls
 
@@ -197,14 +192,14 @@ module _ (P : Plan) (forest : Forest P) (ms : List Message) (hs : List Hop) (ls 
             (route-in (P .units) (P .count) (P .groups) (P .parents) g sent-group i);
       })
 
-  forwarding-is : forwarding ts ns a (rowFor W r) lent ≡ forwardingOf r m below (setState j 2 hs)
-  unfolding forwarding withCounts outgoing arrivalOf rowFor forwardingOf hopsOf
-  forwarding-is = ap (λ (x : Delivery). withCounts (rowFor W r) (outgoing a x)) delivery-is ∙ (λ i. record {
+  forwarding-is : forwarding ts ns a (pairsOf hs t) lent ≡ forwardingOf t r m below (setState j 2 hs)
+  unfolding forwarding withPairs outgoing arrivalOf forwardingOf pairsOf hopsOf
+  forwarding-is = ap (λ (x : Delivery). withPairs (pairsOf hs t) (outgoing a x)) delivery-is ∙ (λ i. record {
     sender = r;
     message = m;
     children = below;
     made = sym (length-state j 2 hs) i;
-    counts = tabulate-same 32 _ _ (λ c b. sym (count-pair-state r c j 2 hs)) i;
+    pairs = pair-same _ _ (λ x y bx by. sym (count-pair-state x y j 2 hs)) i ∷ t ∷ [];
   })
 
   children-is : forward r m (membersOf below) (setState j 2 hs) ≡ hs′
@@ -213,12 +208,12 @@ module _ (P : Plan) (forest : Forest P) (ms : List Message) (hs : List Hop) (ls 
   few-made : length (forward r m (membersOf below) (setState j 2 hs)) ≤ 2000
   few-made = subst (λ (l : List Hop). length l ≤ 2000) (sym children-is) few-after
 
-  pub copy-hops : takeHops ts ns a (rowFor W r) lent ≡ padded 2000 noHop hs′ ++ rest
+  pub copy-hops : takeHops ts ns a (pairsOf hs t) lent ≡ padded 2000 noHop hs′ ++ rest
   unfolding takeHops arrivalOf
   copy-hops =
       ap (λ (f : Forwarding). forwardedHops 32 f (setState j 2 lent)) forwarding-is
-      ∙ ap (forwardedHops 32 (forwardingOf r m below (setState j 2 hs))) (record-state hs rest j 2 (N .within) few-hops)
-      ∙ listed-all 32 r m below (setState j 2 hs) rest below-set (size-below below) few-made
+      ∙ ap (forwardedHops 32 (forwardingOf t r m below (setState j 2 hs))) (record-state hs rest j 2 (N .within) few-hops)
+      ∙ listed-all t 32 r m below (setState j 2 hs) rest unit below-set (size-below below) few-made
       ∙ ap (λ (l : List Hop). padded 2000 noHop l ++ rest) children-is
 
   -- ---- the log
@@ -269,15 +264,15 @@ module _ (P : Plan) (forest : Forest P) (ms : List Message) (hs : List Hop) (ls 
 
   -- ---- the arrival
 
-  forwarded-is : forwarded 32 (forwarding ts ns a (rowFor W r) lent) ≡ forwardingOf r m 0 hs′
+  forwarded-is : forwarded 32 (forwarding ts ns a (pairsOf hs t) lent) ≡ forwardingOf t r m 0 hs′
   forwarded-is =
       ap (forwarded 32) forwarding-is
-      ∙ forwarded-all 32 r m below (setState j 2 hs) below-set (size-below below) few-made
-      ∙ ap (forwardingOf r m 0) children-is
+      ∙ forwarded-all t 32 r m below (setState j 2 hs) unit below-set (size-below below) few-made
+      ∙ ap (forwardingOf t r m 0) children-is
 
-  pub copy-row : takeRow ts ns a (rowFor W r) lent ≡ rowFor W′ r
-  unfolding takeRow rowFor hopsOf forwardingOf
-  copy-row = ap (λ (f : Forwarding). f .counts) forwarded-is
+  pub copy-pairs : takePairs ts ns a (pairsOf hs t) lent ≡ pairsOf hs′ t
+  unfolding takePairs forwardingOf
+  copy-pairs = ap (λ (f : Forwarding). f .pairs) forwarded-is
 
   pub copy-pair : pairCount s r hs′ ≡ pairCount s r hs
   copy-pair =
@@ -287,10 +282,10 @@ module _ (P : Plan) (forest : Forest P) (ms : List Message) (hs : List Hop) (ls 
   copy-takes : pairTaken s r hs′ ≡ suc (pairTaken s r hs)
   copy-takes = take-taken s r r m (childrenOn (P .parents) way r) hs j N
 
-  pub copy-arrival : takeArrival ts ns a (rowFor W r) lent ≡ arrivalOf W′ s r j end (suc n)
+  pub copy-arrival : takeArrival ts ns a (pairsOf hs t) lent ≡ arrivalOf W′ s r j end (suc n)
   unfolding takeArrival afterCopy arrivalOf hopsOf forwardingOf
   copy-arrival =
-      ap (λ (x : Delivery). afterCopy a x (forwarded 32 (forwarding ts ns a (rowFor W r) lent) .made)) delivery-is
+      ap (λ (x : Delivery). afterCopy a x (forwarded 32 (forwarding ts ns a (pairsOf hs t) lent) .made)) delivery-is
       ∙ ap (λ (f : Forwarding). afterCopy a d (f .made)) forwarded-is
       ∙ (λ i. record {
         sender = s;

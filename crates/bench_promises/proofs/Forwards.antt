@@ -13,17 +13,15 @@ use lib.ListN.{length, set}
 use Rattle.sets.specs.Sets.{member, lowest, size, excluding}
 use Rattle.sets.proofs.Bools.{cond-true, cond-false, not-true-false}
 use Rattle.sets.proofs.Laws.{member-empty, member-excluding, excluding-below, lowest-of-some, lowest-least, size-excluding}
-use Rattle.layout.specs.Tables.{tabulate}
 use Rattle.model.specs.declared.Hop.{Hop}
 use Rattle.model.specs.Network.{noHop, pairCount, newHop, made}
 use Rattle.model.specs.Rules.{push, rising, forward}
 use Rattle.model.proofs.Hops.{length-snoc}
 use Rattle.model.proofs.Progress.{forward-longer}
-use Rattle.bench_store.specs.Values.{plus}
 use Rattle.hops.specs.Access.{Forwarding, isLeft, nextHop, afterNext, forwarded, forwardedHops}
-use Rattle.bench_promises.specs.State.{padded}
-use Rattle.bench_promises.proofs.Padding.{plus-small, padded-length, padded-snoc, append-set, tabulate-at, added-at}
-use Rattle.bench_promises.proofs.Sends.{count-made-here, count-made-row, count-few}
+use Rattle.bench_promises.specs.State.{padded, pairTable}
+use Rattle.bench_promises.proofs.Padding.{plus-small, padded-length, padded-snoc, append-set}
+use Rattle.bench_promises.proofs.Sends.{counts-made, next-number, count-few}
 
 -- ---- rising lists
 
@@ -85,69 +83,73 @@ members-some x b some =
 
 -- ---- one hop after another
 
--- the hops still to be made to the members of x, `hs` being made
-unfoldable pub forwardingOf : ℕ → ℕ → ℕ → List Hop → Forwarding
-forwardingOf v m x hs = record { sender = v; message = m; children = x; made = length hs; counts = tabulate 32 (λ c. pairCount v c hs) }
+-- the counts of hops made, beside an array t
+unfoldable pub pairsOf : List Hop → List (List ℕ) → List (List (List ℕ))
+pairsOf hs t = pairTable (λ a c. pairCount a c hs) ∷ t ∷ []
+
+-- the hops still to be made from v to the members of x, `hs` being made
+unfoldable pub forwardingOf : List (List ℕ) → ℕ → ℕ → ℕ → List Hop → Forwarding
+forwardingOf t v m x hs = record { sender = v; message = m; children = x; made = length hs; pairs = pairsOf hs t }
 
 -- what stays when all are made
 size-falls : (x : ℕ) → x < 2 ^ 32 → (x ≡ 0 → ⊥) → size (excluding x (lowest x)) < size x
 size-falls x b some = let low = lowest-of-some x b some in size-excluding x (lowest x) (low .0) (low .1)
 
-module _ (v m x : ℕ) (hs : List Hop) (b : x < 2 ^ 32) (some : x ≡ 0 → ⊥) (few : length hs < 65535) where
-  abbrev child : ℕ
-  child = lowest x
-
-  child-unit : child < 32
-  child-unit = lowest-of-some x b some .0
-
-  next-is : nextHop (forwardingOf v m x hs) ≡ newHop v child m hs
-  unfolding nextHop forwardingOf newHop
-  next-is = λ i. record {
-    sender = v;
-    receiver = lowest x;
-    sequence = (ap (λ (n : ℕ). plus n 1) (tabulate-at 32 (λ c. pairCount v c hs) (lowest x) 0 child-unit)
-        ∙ plus-small (pairCount v (lowest x) hs) 1 (omega (arith, count-few v (lowest x) hs)) ∙ add-one (pairCount v (lowest x) hs)) i;
-    message = m;
-    state = 0;
-  }
-
-  after-is : afterNext (forwardingOf v m x hs) ≡ forwardingOf v m (excluding x child) (made v child m hs)
-  unfolding afterNext forwardingOf made
-  after-is = λ i. record {
-    sender = v;
-    message = m;
-    children = excluding x (lowest x);
-    made = (plus-small (length hs) 1 (omega (arith, few)) ∙ add-one (length hs) ∙ sym (length-snoc hs (newHop v (lowest x) m hs))) i;
-    counts = added-at (λ c. pairCount v c hs) (λ c. pairCount v c (made v (lowest x) m hs)) (lowest x) 1 child-unit
-        (omega (arith, count-few v (lowest x) hs)) (count-made-here v (lowest x) m hs) (λ k bk ne. count-made-row v k (lowest x) m hs ne) i;
-  }
-
-left-some : (v m x : ℕ) (hs : List Hop) → (x ≡ 0 → ⊥) → isLeft (forwardingOf v m x hs) ≡ true
-unfolding isLeft forwardingOf
-left-some v m x hs some = ap not (ne-eqb x 0 some)
-
-left-none : (v m : ℕ) (hs : List Hop) → isLeft (forwardingOf v m 0 hs) ≡ false
-unfolding isLeft forwardingOf
-left-none v m hs = refl
-
 length-made : (v c m : ℕ) (hs : List Hop) → length (made v c m hs) ≡ suc (length hs)
 unfolding made
 length-made v c m hs = length-snoc hs (newHop v c m hs)
 
--- none left: nothing changes
-none-forwarded : (k v m : ℕ) (hs : List Hop) → forwarded k (forwardingOf v m 0 hs) ≡ forwardingOf v m 0 (forward v m (membersOf 0) hs)
-unfolding forwarded forward
-none-forwarded zero v m hs = ap (λ (l : List ℕ). forwardingOf v m 0 (forward v m l hs)) (sym members-none)
-none-forwarded (suc k) v m hs =
-    cond-false (isLeft (forwardingOf v m 0 hs)) _ _ (left-none v m hs)
-    ∙ ap (λ (l : List ℕ). forwardingOf v m 0 (forward v m l hs)) (sym members-none)
+module _ (t : List (List ℕ)) (v m x : ℕ) (hs : List Hop) (unit : v < 32) (b : x < 2 ^ 32) (some : x ≡ 0 → ⊥) (few : length hs < 65535)
+  where
+    abbrev child : ℕ
+    child = lowest x
 
-none-listed : (k v m : ℕ) (hs rest : List Hop)
-    → forwardedHops k (forwardingOf v m 0 hs) (padded 2000 noHop hs ++ rest) ≡ padded 2000 noHop (forward v m (membersOf 0) hs) ++ rest
+    child-unit : child < 32
+    child-unit = lowest-of-some x b some .0
+
+    next-is : nextHop (forwardingOf t v m x hs) ≡ newHop v child m hs
+    unfolding nextHop forwardingOf pairsOf newHop
+    next-is = λ i. record {
+      sender = v;
+      receiver = lowest x;
+      sequence = next-number hs t v (lowest x) unit child-unit (omega (arith, few, count-few v (lowest x) hs)) i;
+      message = m;
+      state = 0;
+    }
+
+    after-is : afterNext (forwardingOf t v m x hs) ≡ forwardingOf t v m (excluding x child) (made v child m hs)
+    unfolding afterNext forwardingOf pairsOf
+    after-is = λ i. record {
+      sender = v;
+      message = m;
+      children = excluding x (lowest x);
+      made = (plus-small (length hs) 1 (omega (arith, few)) ∙ add-one (length hs) ∙ sym (length-made v (lowest x) m hs)) i;
+      pairs = counts-made hs t v (lowest x) m unit child-unit (omega (arith, few, count-few v (lowest x) hs)) i;
+    }
+
+left-some : (t : List (List ℕ)) (v m x : ℕ) (hs : List Hop) → (x ≡ 0 → ⊥) → isLeft (forwardingOf t v m x hs) ≡ true
+unfolding isLeft forwardingOf
+left-some t v m x hs some = ap not (ne-eqb x 0 some)
+
+left-none : (t : List (List ℕ)) (v m : ℕ) (hs : List Hop) → isLeft (forwardingOf t v m 0 hs) ≡ false
+unfolding isLeft forwardingOf
+left-none t v m hs = refl
+
+-- none left: nothing changes
+none-forwarded : (t : List (List ℕ)) (k v m : ℕ) (hs : List Hop)
+    → forwarded k (forwardingOf t v m 0 hs) ≡ forwardingOf t v m 0 (forward v m (membersOf 0) hs)
+unfolding forwarded forward
+none-forwarded t zero v m hs = ap (λ (l : List ℕ). forwardingOf t v m 0 (forward v m l hs)) (sym members-none)
+none-forwarded t (suc k) v m hs =
+    cond-false (isLeft (forwardingOf t v m 0 hs)) _ _ (left-none t v m hs)
+    ∙ ap (λ (l : List ℕ). forwardingOf t v m 0 (forward v m l hs)) (sym members-none)
+
+none-listed : (t : List (List ℕ)) (k v m : ℕ) (hs rest : List Hop)
+    → forwardedHops k (forwardingOf t v m 0 hs) (padded 2000 noHop hs ++ rest) ≡ padded 2000 noHop (forward v m (membersOf 0) hs) ++ rest
 unfolding forwardedHops forward
-none-listed zero v m hs rest = ap (λ (l : List ℕ). padded 2000 noHop (forward v m l hs) ++ rest) (sym members-none)
-none-listed (suc k) v m hs rest =
-    cond-false (isLeft (forwardingOf v m 0 hs)) _ _ (left-none v m hs)
+none-listed t zero v m hs rest = ap (λ (l : List ℕ). padded 2000 noHop (forward v m l hs) ++ rest) (sym members-none)
+none-listed t (suc k) v m hs rest =
+    cond-false (isLeft (forwardingOf t v m 0 hs)) _ _ (left-none t v m hs)
     ∙ ap (λ (l : List ℕ). padded 2000 noHop (forward v m l hs) ++ rest) (sym members-none)
 
 no-fuel : (x : ℕ) → x < 2 ^ 32 → size x ≤ 0 → (x ≡ 0 → ⊥) → ⊥
@@ -163,57 +165,61 @@ forward-some v m x hs b ne few =
     (omega (arith, rest, longer, length-made v (lowest x) m hs), rest)
 
 -- the state once all are made
-abbrev Forwarded : ℕ → ℕ → ℕ → List Hop → ℕ → Type 0
-Forwarded k v m hs x = forwarded k (forwardingOf v m x hs) ≡ forwardingOf v m 0 (forward v m (membersOf x) hs)
+abbrev Forwarded : List (List ℕ) → ℕ → ℕ → ℕ → List Hop → ℕ → Type 0
+Forwarded t k v m hs x = forwarded k (forwardingOf t v m x hs) ≡ forwardingOf t v m 0 (forward v m (membersOf x) hs)
 
-pub forwarded-all : (k v m x : ℕ) (hs : List Hop) → x < 2 ^ 32 → size x ≤ k → length (forward v m (membersOf x) hs) ≤ 2000
-    → Forwarded k v m hs x
+pub forwarded-all : (t : List (List ℕ)) (k v m x : ℕ) (hs : List Hop) → v < 32 → x < 2 ^ 32 → size x ≤ k
+    → length (forward v m (membersOf x) hs) ≤ 2000 → Forwarded t k v m hs x
 unfolding forwarded forward
-forwarded-all zero v m x hs b fuel few = by-cases (ℕ-discrete x 0)
-    (λ e. subst (λ (y : ℕ). Forwarded 0 v m hs y) (sym e) (none-forwarded 0 v m hs))
+forwarded-all t zero v m x hs unit b fuel few = by-cases (ℕ-discrete x 0)
+    (λ e. subst (λ (y : ℕ). Forwarded t 0 v m hs y) (sym e) (none-forwarded t 0 v m hs))
     (λ ne. absurd (no-fuel x b fuel ne))
-forwarded-all (suc k) v m x hs b fuel few = by-cases (ℕ-discrete x 0)
-    (λ e. subst (λ (y : ℕ). Forwarded (suc k) v m hs y) (sym e) (none-forwarded (suc k) v m hs))
+forwarded-all t (suc k) v m x hs unit b fuel few = by-cases (ℕ-discrete x 0)
+    (λ e. subst (λ (y : ℕ). Forwarded t (suc k) v m hs y) (sym e) (none-forwarded t (suc k) v m hs))
     (λ ne.
     let falls = size-falls x b ne in
     let fewer = forward-some v m x hs b ne few in
-    cond-true (isLeft (forwardingOf v m x hs)) _ _ (left-some v m x hs ne)
-    ∙ ap (forwarded k) (after-is v m x hs b ne (omega (arith, fewer .0)))
-    ∙ forwarded-all k v m (excluding x (lowest x)) (made v (lowest x) m hs) (excluding-below 32 x (lowest x) b) (omega (arith, falls))
+    cond-true (isLeft (forwardingOf t v m x hs)) _ _ (left-some t v m x hs ne)
+    ∙ ap (forwarded k) (after-is t v m x hs unit b ne (omega (arith, fewer .0)))
+    ∙ forwarded-all t k v m (excluding x (lowest x)) (made v (lowest x) m hs) unit (excluding-below 32 x (lowest x) b) (omega
+    (arith, falls))
     (fewer .1)
-    ∙ ap (λ (l : List ℕ). forwardingOf v m 0 (forward v m l hs)) (sym (members-some x b ne)))
+    ∙ ap (λ (l : List ℕ). forwardingOf t v m 0 (forward v m l hs)) (sym (members-some x b ne)))
 
 -- the next hop, stored at the end of the hops made
-stored : (v m x : ℕ) (hs rest : List Hop) → x < 2 ^ 32 → (x ≡ 0 → ⊥) → length hs < 2000 → length hs < 65535
-    → set (padded 2000 noHop hs ++ rest) (length hs) (nextHop (forwardingOf v m x hs)) ≡ padded 2000 noHop (made v (lowest x) m hs) ++ rest
+stored : (t : List (List ℕ)) (v m x : ℕ) (hs rest : List Hop) → v < 32 → x < 2 ^ 32 → (x ≡ 0 → ⊥) → length hs < 2000 → length hs < 65535
+    → set (padded 2000 noHop hs ++ rest) (length hs) (nextHop (forwardingOf t v m x hs)) ≡ padded 2000 noHop (made v
+    (lowest x) m hs) ++ rest
 unfolding made
-stored v m x hs rest b ne room small =
-    ap (set (padded 2000 noHop hs ++ rest) (length hs)) (next-is v m x hs b ne small)
+stored t v m x hs rest unit b ne room small =
+    ap (set (padded 2000 noHop hs ++ rest) (length hs)) (next-is t v m x hs unit b ne small)
     ∙ append-set (padded 2000 noHop hs) rest (length hs) _
     (subst (λ (n : ℕ). length hs < n) (sym (padded-length 2000 noHop hs (omega (arith, room)))) room)
     ∙ ap (λ (l : List Hop). l ++ rest) (padded-snoc 2000 noHop _ hs room)
 
 -- the lent hops once all are made
-abbrev Listed : ℕ → ℕ → ℕ → List Hop → List Hop → ℕ → Type 0
-Listed k v m hs rest x =
-    forwardedHops k (forwardingOf v m x hs) (padded 2000 noHop hs ++ rest) ≡ padded 2000 noHop (forward v m (membersOf x) hs) ++ rest
+abbrev Listed : List (List ℕ) → ℕ → ℕ → ℕ → List Hop → List Hop → ℕ → Type 0
+Listed t k v m hs rest x =
+    forwardedHops k (forwardingOf t v m x hs) (padded 2000 noHop hs ++ rest) ≡ padded 2000 noHop (forward v m (membersOf x) hs) ++ rest
 
-pub listed-all : (k v m x : ℕ) (hs rest : List Hop) → x < 2 ^ 32 → size x ≤ k → length (forward v m (membersOf x) hs) ≤ 2000
-    → Listed k v m hs rest x
+pub listed-all : (t : List (List ℕ)) (k v m x : ℕ) (hs rest : List Hop) → v < 32 → x < 2 ^ 32 → size x ≤ k
+    → length (forward v m (membersOf x) hs) ≤ 2000 → Listed t k v m hs rest x
 unfolding forwardedHops forward forwardingOf
-listed-all zero v m x hs rest b fuel few = by-cases (ℕ-discrete x 0)
-    (λ e. subst (λ (y : ℕ). Listed 0 v m hs rest y) (sym e) (none-listed 0 v m hs rest)) (λ ne. absurd (no-fuel x b fuel ne))
-listed-all (suc k) v m x hs rest b fuel few = by-cases (ℕ-discrete x 0)
-    (λ e. subst (λ (y : ℕ). Listed (suc k) v m hs rest y) (sym e) (none-listed (suc k) v m hs rest))
+listed-all t zero v m x hs rest unit b fuel few = by-cases (ℕ-discrete x 0)
+    (λ e. subst (λ (y : ℕ). Listed t 0 v m hs rest y) (sym e) (none-listed t 0 v m hs rest)) (λ ne. absurd (no-fuel x b fuel ne))
+listed-all t (suc k) v m x hs rest unit b fuel few = by-cases (ℕ-discrete x 0)
+    (λ e. subst (λ (y : ℕ). Listed t (suc k) v m hs rest y) (sym e) (none-listed t (suc k) v m hs rest))
     (λ ne.
     let falls = size-falls x b ne in
     let fewer = forward-some v m x hs b ne few in
     let room = fewer .0 in
     let small : length hs < 65535 = omega (arith, room) in
-    cond-true (isLeft (forwardingOf v m x hs)) _ _ (left-some v m x hs ne)
-    ∙ ap (λ (f : Forwarding). forwardedHops k f (set (padded 2000 noHop hs ++ rest) (length hs) (nextHop (forwardingOf v m x hs))))
-    (after-is v m x hs b ne small)
-    ∙ ap (forwardedHops k (forwardingOf v m (excluding x (lowest x)) (made v (lowest x) m hs))) (stored v m x hs rest b ne room small)
-    ∙ listed-all k v m (excluding x (lowest x)) (made v (lowest x) m hs) rest (excluding-below 32 x (lowest x) b) (omega (arith, falls))
+    cond-true (isLeft (forwardingOf t v m x hs)) _ _ (left-some t v m x hs ne)
+    ∙ ap (λ (f : Forwarding). forwardedHops k f (set (padded 2000 noHop hs ++ rest) (length hs) (nextHop (forwardingOf t v m x hs))))
+    (after-is t v m x hs unit b ne small)
+    ∙ ap (forwardedHops k (forwardingOf t v m (excluding x (lowest x)) (made v (lowest x) m hs)))
+    (stored t v m x hs rest unit b ne room small)
+    ∙ listed-all t k v m (excluding x (lowest x)) (made v (lowest x) m hs) rest unit (excluding-below 32 x (lowest x) b) (omega
+    (arith, falls))
     (fewer .1)
     ∙ ap (λ (l : List ℕ). padded 2000 noHop (forward v m l hs) ++ rest) (sym (members-some x b ne)))

@@ -18,12 +18,12 @@ use Rattle.layout.proofs.Tables.{length-tabulate, getD-tabulate, tabulated, sam
 use Rattle.model.specs.declared.Message.{Message}
 use Rattle.model.specs.Network.{noMessage, messageAt}
 use Rattle.model.proofs.Hops.{length-snoc}
-use Rattle.bench_store.specs.Values.{plus, byte, filled, columnAt, withColumn, added, isPair, countOf}
+use Rattle.bench_store.specs.Values.{plus, byte, filled, columnAt, withColumn, added, isPair, countIn, addedIn}
 use Rattle.bench_promises.specs.State.{padded, pairTable, messageColumn, messageList}
 -- laws of other libraries under this crate's names
 pub use lib.ListN.{List·getD-append as append-at}
 pub use lib.Seq.{set-append-left as append-set}
-pub use Rattle.layout.proofs.Tables.{getD-tabulate as tabulate-at, same-tables as tabulate-same}
+pub use Rattle.layout.proofs.Tables.{getD-tabulate as tabulate-at}
 
 -- ---- numbers within their width
 
@@ -105,7 +105,7 @@ module _ {A : Type 0} where
 
 -- ---- rows
 
-pub added-at : (f g : ℕ → ℕ) (r n : ℕ) → r < 32 → f r + n < 65536 → g r ≡ f r + n → ((k : ℕ) → k < 32 → (k ≡ r → ⊥) → g k ≡ f k)
+added-at : (f g : ℕ → ℕ) (r n : ℕ) → r < 32 → f r + n < 65536 → g r ≡ f r + n → ((k : ℕ) → k < 32 → (k ≡ r → ⊥) → g k ≡ f k)
     → added (tabulate 32 f) r n ≡ tabulate 32 g
 unfolding added
 added-at f g r n b small e other =
@@ -115,34 +115,41 @@ added-at f g r n b small e other =
 -- ---- tables of pairs
 
 -- both are units
-pub pair-in : (s r : ℕ) → s < 32 → r < 32 → isPair s r ≡ true
+pair-in : (s r : ℕ) → s < 32 → r < 32 → isPair s r ≡ true
 unfolding isPair
 pair-in s r b c = and-both (ltb s 32) (ltb r 32) (lt-ltb s 32 b) (lt-ltb r 32 c)
 
-pub row-at : (f : ℕ → ℕ → ℕ) (s : ℕ) → s < 32 → getD (pairTable f) s [] ≡ tabulate 32 (f s)
+row-at : (f : ℕ → ℕ → ℕ) (s : ℕ) → s < 32 → getD (pairTable f) s [] ≡ tabulate 32 (f s)
 unfolding pairTable
 row-at f s b = getD-tabulate 32 (λ a. tabulate 32 (f a)) s [] b
 
-pub count-at : (f : ℕ → ℕ → ℕ) (s r : ℕ) → s < 32 → r < 32 → countOf (pairTable f) s r ≡ f s r
-unfolding countOf
-count-at f s r b c =
-    cond-true _ _ _ (pair-in s r b c) ∙ ap (λ (l : List ℕ). getD l r 0) (row-at f s b) ∙ getD-tabulate 32 (f s) r 0 c
+-- the count of a pair in array k of a list
+pub count-at : (ps : List (List (List ℕ))) (k : ℕ) (f : ℕ → ℕ → ℕ) (s r : ℕ) → ltb k (length ps) ≡ true → getD ps k [] ≡ pairTable f
+    → s < 32 → r < 32 → countIn ps k s r ≡ f s r
+unfolding countIn
+count-at ps k f s r within e b c =
+    cond-true _ _ _ (and-both (ltb k (length ps)) (isPair s r) within (pair-in s r b c))
+    ∙ ap (λ (t : List (List ℕ)). getD (getD t s []) r 0) e ∙ ap (λ (l : List ℕ). getD l r 0) (row-at f s b) ∙ getD-tabulate 32 (f s) r 0 c
 
-pub pair-set : (f g : ℕ → ℕ → ℕ) (s : ℕ) (row : List ℕ) → s < 32 → row ≡ tabulate 32 (g s)
+pair-set : (f g : ℕ → ℕ → ℕ) (s : ℕ) (row : List ℕ) → s < 32 → row ≡ tabulate 32 (g s)
     → ((a b : ℕ) → a < 32 → b < 32 → (a ≡ s → ⊥) → g a b ≡ f a b) → set (pairTable f) s row ≡ pairTable g
 unfolding pairTable
 pair-set f g s row b e other =
     tabulate-set 32 (λ a. tabulate 32 (f a)) (λ a. tabulate 32 (g a)) s row b (sym e)
     (λ a c n. same-tables 32 (g a) (f a) (λ k d. other a k c d n))
 
--- n more for the pair s, r
-pub pair-added : (f g : ℕ → ℕ → ℕ) (s r n : ℕ) → s < 32 → r < 32 → f s r + n < 65536 → g s r ≡ f s r + n
+-- n more for the pair s, r in array k of a list
+pub pair-added : (ps : List (List (List ℕ))) (k : ℕ) (f g : ℕ → ℕ → ℕ) (s r n : ℕ) → ltb k (length ps) ≡ true
+    → getD ps k [] ≡ pairTable f → s < 32 → r < 32 → f s r + n < 65536 → g s r ≡ f s r + n
     → ((b : ℕ) → (b ≡ r → ⊥) → g s b ≡ f s b) → ((a b : ℕ) → (a ≡ s → ⊥) → g a b ≡ f a b)
-    → set (pairTable f) s (added (getD (pairTable f) s []) r n) ≡ pairTable g
-pair-added f g s r n bs br small e row others =
-    pair-set f g s _ bs
-    (ap (λ (l : List ℕ). added l r n) (row-at f s bs) ∙ added-at (f s) (g s) r n br small e (λ k bk ne. row k ne))
-    (λ a b ba bb ne. others a b ne)
+    → addedIn ps k s r n ≡ set ps k (pairTable g)
+unfolding addedIn
+pair-added ps k f g s r n within e bs br small more row others =
+    cond-true _ _ _ (and-both (ltb k (length ps)) (isPair s r) within (pair-in s r bs br))
+    ∙ ap (λ (t : List (List ℕ)). set ps k (set t s (added (getD t s []) r n))) e
+    ∙ ap (set ps k) (pair-set f g s _ bs
+    (ap (λ (l : List ℕ). added l r n) (row-at f s bs) ∙ added-at (f s) (g s) r n br small more (λ b bb ne. row b ne))
+    (λ a b ba bb ne. others a b ne))
 
 pub pair-same : (f g : ℕ → ℕ → ℕ) → ((a b : ℕ) → a < 32 → b < 32 → f a b ≡ g a b) → pairTable f ≡ pairTable g
 unfolding pairTable

@@ -1,19 +1,19 @@
 -- What the calls compute keeps their promises, for every input. Assumes nothing.
 use mathlib.Core.Path.{_≡_, refl, sym, ap, subst, _∙_}
 use mathlib.Core.Logic.{_⊎_, ⊎-elim}
-use mathlib.Core.Bool.{Bool, true, false, not, cond, _||_}
+use mathlib.Core.Bool.{Bool, true, false, cond, _||_}
 use mathlib.Core.List.{List, [], _∷_, _++_}
 use Prim.Native.Nat.{ℕ, suc, _+_, _*_, _≤_, _<_}
 use native.Mathlib.Nat.{le-trans}
 use native.Mathlib.Omega.{arith}
-use borrow.Author.Tests.{lt-ltb, le-ltb, lt-leb, leb-false, eq-eqb, ne-eqb, eqb-true, eqb-false}
+use borrow.Author.Tests.{lt-ltb, le-ltb, lt-leb, le-leb, leb-false, eq-eqb, ne-eqb, eqb-true, eqb-false}
 use lib.Dec.{ltb, leb, eqb}
 use lib.ListN.{length, set, take, drop, take-append-drop}
 use denote.Ref.{RefT}
 use Rattle.sets.proofs.Bools.{either, clash, or-left, or-right}
 use Rattle.layout.specs.Tables.{tabulate}
 use Rattle.model.specs.declared.Hop.{Hop}
-use Rattle.model.specs.Network.{Plan, Network, network, noHop, hopAt, hopsOf, logOf, isTaken, sumOf, bit, countHops}
+use Rattle.model.specs.Network.{Plan, Network, network, noHop, hopAt, hopsOf, logOf, isTaken, setState, sumOf, bit, countHops}
 use Rattle.model.specs.Rules.{Outcome, Refused, refuse, refused, answerOf, leftOf, send, arrive, allTaken, quiescent}
 use Rattle.model.specs.Calls.{log, Rest}
 use Rattle.model.specs.Claims.{Limits}
@@ -32,9 +32,9 @@ use Rattle.bench_promises.specs.declared.replies.SendReply.{SendReply}
 use Rattle.bench_promises.specs.declared.arrival.Arrival.{Arrival}
 use Rattle.bench_promises.specs.declared.replies.ArriveReply.{ArriveReply}
 use Rattle.bench_promises.specs.declared.replies.ArriveReply.the-variants.{Taken, Held}
-use Rattle.bench_promises.specs.Machine.{isShort, freshHops, freshBook, freshBench, sendRefusal, sentReply, firstHop, arriveRefusal}
-use Rattle.bench_promises.specs.Machine.{isClosed, closedReply, finishedReply, restReply, unlessRefused, logStart, logCount, logPart}
-use Rattle.bench_promises.specs.Machine.{logReply}
+use Rattle.bench_promises.specs.Machine.{isShort, freshHops, freshBook, freshBench, sendRefusal, sentReply, sequenceOf, firstHop}
+use Rattle.bench_promises.specs.Machine.{arriveRefusal, isClosed, closedReply, finishedReply, restReply, unlessRefused, logStart}
+use Rattle.bench_promises.specs.Machine.{logCount, logPart, logReply}
 use Rattle.bench_promises.specs.Replies.{freshAnswer, sendAnswer, arriveAnswer, restAnswer, logAnswer, Length}
 use Rattle.bench_promises.specs.State.{Bench, hopRecords, logBook, totalsOf, benchOf}
 use Rattle.bench_promises.specs.Promises.{after, OfHops, OfBook, FreshPromise, SentAs, SendPromise, ArrivedAs, ArrivePromise}
@@ -44,7 +44,7 @@ use Rattle.bench_promises.proofs.Books.{fresh-hops, fresh-book, fresh-b
 use Rattle.bench_promises.proofs.Sends as S
 use Rattle.bench_promises.proofs.Sends.{recordedBench}
 use Rattle.bench_promises.proofs.Arrivals as A
-use Rattle.bench_promises.proofs.Arrivals.{arrivedBench, endAt}
+use Rattle.bench_promises.proofs.Arrivals.{arrivedBench, nextAt, endAt}
 
 -- ---- fresh
 
@@ -100,7 +100,7 @@ module _ (P : Plan) (forest : Forest P) (s g w : ℕ) (hops : List Hop) where
 
   abbrev Sends : Bench → List Hop → Network → Type 0
   Sends b l W = eqb (sendNumber b s g l) 0 ≡ true → SentAs P (send P s g w W) hops (sentReply (b .totals) 0) (recordedBench b s g w)
-      (set l (b .totals .made) (firstHop (b .totals) (b .tables) (b .pairs) s g))
+      (set l (b .totals .made) (firstHop (b .totals) (b .tables) s g (sequenceOf (b .tables) s g (b .pairs))))
 
   send-as : (W : Network) → Limits P W → (b : Bench) → b ≡ benchOf P W → OfHops W hops → Refuses b hops W × Sends b hops W
   unfolding benchOf refused leftOf answerOf
@@ -133,7 +133,7 @@ send-refused b s g w hops none = record {
 -- one that is not turned away
 pub send-taken : (b : Bench) (s g w : ℕ) (hops : List Hop) → eqb (sendNumber b s g hops) 0 ≡ true
     → SendPromise b s g w hops (sentReply (b .totals) 0) (recordedBench b s g w)
-    (set hops (b .totals .made) (firstHop (b .totals) (b .tables) (b .pairs) s g))
+    (set hops (b .totals .made) (firstHop (b .totals) (b .tables) s g (sequenceOf (b .tables) s g (b .pairs))))
 unfolding after sentReply sendAnswer refuse
 send-taken b s g w hops some = record {
   refused = λ number e. let z : _≡_ {A = ℕ} 0 1 = cc in absurd (omega arith);
@@ -169,16 +169,22 @@ module _ (P : Plan) (forest : Forest P) (j : ℕ) (hops : List Hop) (book : List
   Closes b l k W = isClosed (arriveNumber b j l k) (hopAt l j) ≡ true → ArrivedAs P (arrive P j W) hops book
       (closedReply (arriveNumber b j l k)) b l k
 
+  abbrev Open : Bench → List Hop → List ℕ → Type 0
+  Open b l k = isClosed (arriveNumber b j l k) (hopAt l j) ≡ false
+
+  abbrev Holds : Bench → List Hop → List ℕ → Network → Type 0
+  Holds b l k W = Open b l k → nextAt b j l ≡ false → ArrivedAs P (arrive P j W) hops book Held b (setState j 1 l) k
+
   abbrev Arrives : Bench → List Hop → List ℕ → Network → Type 0
-  Arrives b l k W = isClosed (arriveNumber b j l k) (hopAt l j) ≡ false
+  Arrives b l k W = Open b l k → nextAt b j l ≡ true
       → ArrivedAs P (arrive P j W) hops book (finishedReply (endAt b j l k .arrival)) (arrivedBench b (endAt b j l k))
       (endAt b j l k .hops) (endAt b j l k .book)
 
-  abbrev Both : Bench → List Hop → List ℕ → Network → Type 0
-  Both b l k W = Closes b l k W × Arrives b l k W
+  abbrev All : Bench → List Hop → List ℕ → Network → Type 0
+  All b l k W = Closes b l k W × Holds b l k W × Arrives b l k W
 
   arrive-as : (W : Network) → Valid P forest W → TakenFirst (hopsOf W) → ((s r : ℕ) → Idle (hopsOf W) s r) → (b : Bench) → b ≡ benchOf P W
-      → OfHops W hops → OfBook W book → Both b hops book W
+      → OfHops W hops → OfBook W book → All b hops book W
   unfolding benchOf totalsOf hopsOf
   arrive-as (network ms hs ls) valid first idle b at of of′ =
       let W = network ms hs ls in
@@ -186,8 +192,8 @@ module _ (P : Plan) (forest : Forest P) (j : ℕ) (hops : List Hop) (book : List
       let e′ = lent-book W book of′ in
       let G = A.agrees P forest ms hs ls valid first idle (drop 2000 hops) (drop 6400 book) j
       (subst (λ (l : List Hop). 2000 ≤ length l) (sym e) (of .whole)) (subst (λ (l : List ℕ). 6400 ≤ length l) (sym e′) (of′ .whole)) in
-      subst (λ (x : Bench). Both x hops book W) (sym at) (subst (λ (k : List ℕ). Both (benchOf P W) hops k W) e′
-      (subst (λ (l : List Hop). Both (benchOf P W) l (logBook W ++ drop 6400 book) W) e (
+      subst (λ (x : Bench). All x hops book W) (sym at) (subst (λ (k : List ℕ). All (benchOf P W) hops k W) e′
+      (subst (λ (l : List Hop). All (benchOf P W) l (logBook W ++ drop 6400 book) W) e (
         (λ shut.
             let x = G .shut shut in
             record {
@@ -196,7 +202,8 @@ module _ (P : Plan) (forest : Forest P) (j : ℕ) (hops : List Hop) (book : List
               records = ap (λ (X : Network). hopRecords X ++ drop 2000 hops) (sym (x .0));
               numbers = ap (λ (X : Network). logBook X ++ drop 6400 book) (sym (x .0));
             }),
-        (λ out. let x = G .out out in record { answer = x .answer; bench = x .bench; records = x .hops; numbers = x .numbers }),
+        (λ out t. let x = G .held out t in record { answer = x .answer; bench = x .bench; records = x .hops; numbers = x .numbers }),
+        (λ out t. let x = G .out out t in record { answer = x .answer; bench = x .bench; records = x .hops; numbers = x .numbers }),
       )))
 
 -- turned away, or the hop is not out: the very same values are left
@@ -219,24 +226,37 @@ never-refused a number e = by (eqb (a .taken) 0) e
     by true e = let z : _≡_ {A = ℕ} 0 1 = cc in omega arith
     by false e = let z : _≡_ {A = ℕ} 0 1 = cc in omega arith
 
--- a hop that is out
-pub arrive-open : (b : Bench) (j : ℕ) (hops : List Hop) (book : List ℕ) → isClosed (arriveNumber b j hops book) (hopAt hops j) ≡ false
-    → ArrivePromise b j hops book (finishedReply (endAt b j hops book .arrival)) (arrivedBench b (endAt b j hops book))
-    (endAt b j hops book .hops) (endAt b j hops book .book)
-unfolding after isClosed
-arrive-open b j hops book out = record {
-  refused = λ number e. absurd (never-refused (endAt b j hops book .arrival) number e);
-  short = λ l. absurd (clash (ap (λ (k : ℕ). isClosed k (hopAt hops j)) (short-arrive (b .totals .made) j (length hops) (length book) l))
-      out);
-  rule = λ P planned cs at of of′. arrive-as P (planned-forest P planned) j hops book (after P cs) (run-valid P planned cs)
-      (run-taken-first P planned cs) (run-idle P planned cs) b at of of′ .1 out;
-}
+-- a hop that is out: one that is not the next of its pair is held, and one that is settles its pair
+module _ (b : Bench) (j : ℕ) (hops : List Hop) (book : List ℕ) (out : isClosed (arriveNumber b j hops book) (hopAt hops j) ≡ false) where
+  long : (length hops < 2000) ⊎ (length book < 6400) → ⊥
+  unfolding isClosed
+  long l = clash (ap (λ (k : ℕ). isClosed k (hopAt hops j)) (short-arrive (b .totals .made) j (length hops) (length book) l)) out
+
+  pub arrive-held : nextAt b j hops ≡ false → ArrivePromise b j hops book Held b (setState j 1 hops) book
+  unfolding after arriveAnswer
+  arrive-held t = record {
+    refused = λ number e. let z : _≡_ {A = ℕ} 0 1 = cc in absurd (omega arith);
+    short = λ l. absurd (long l);
+    rule = λ P planned cs at of of′. arrive-as P (planned-forest P planned) j hops book (after P cs) (run-valid P planned cs)
+        (run-taken-first P planned cs) (run-idle P planned cs) b at of of′ .1 out t;
+  }
+
+  pub arrive-open : nextAt b j hops ≡ true → ArrivePromise b j hops book (finishedReply (endAt b j hops book .arrival))
+      (arrivedBench b (endAt b j hops book)) (endAt b j hops book .hops) (endAt b j hops book .book)
+  unfolding after
+  arrive-open t = record {
+    refused = λ number e. absurd (never-refused (endAt b j hops book .arrival) number e);
+    short = λ l. absurd (long l);
+    rule = λ P planned cs at of of′. arrive-as P (planned-forest P planned) j hops book (after P cs) (run-valid P planned cs)
+        (run-taken-first P planned cs) (run-idle P planned cs) b at of of′ .2 out t;
+  }
 
 pub arrive-some : (b : Bench) (j : ℕ) (hops : List Hop) (book : List ℕ)
     → (r : ArriveReply) × (left : Bench) × (hops-left : List Hop) × (book-left : List ℕ) × ArrivePromise b j hops book r left hops-left
     book-left
 arrive-some b j hops book = ⊎-elim (λ shut. (_, _, _, _, arrive-closed b j hops book shut))
-    (λ out. (_, _, _, _, arrive-open b j hops book out))
+    (λ out. ⊎-elim (λ t. (_, _, _, _, arrive-open b j hops book out t)) (λ t. (_, _, _, _, arrive-held b j hops book out t))
+    (either (nextAt b j hops)))
     (either (isClosed (arriveNumber b j hops book) (hopAt hops j)))
 
 -- ---- rest
@@ -331,17 +351,29 @@ unfolding logStart unlessRefused refuse
 start-is P forest W u book whole unit =
     simp (le-ltb book 6400 whole, units-at P W) (simp (lt-leb (P .units) u unit) (simp (lt-leb 32 u (le-trans unit (forest .few))) refl))
 
+start-short : (ts : List ℕ) (u book : ℕ) → book < 6400 → logStart ts u book ≡ 0
+unfolding logStart unlessRefused refuse
+start-short ts u book l = simp (lt-ltb book 6400 l) refl
+
+start-none : (P : Plan) (W : Network) (u book : ℕ) → 6400 ≤ book → P .units ≤ u → logStart (benchOf P W .tables) u book ≡ 0
+unfolding logStart unlessRefused refuse
+start-none P W u book whole over = simp (le-ltb book 6400 whole, units-at P W) (simp (le-leb (P .units) u over) refl)
+
 pub log-place : (b : Bench) (u : ℕ) (book part : RefT (List ℕ))
     → part .ptr ≡ (book .ptr .0, logStart (b .tables) u (length (book .now)) * 2 + book .ptr .1) → LogPlace b u book part
 unfolding after
 log-place b u book part e = record {
-  rule = λ P planned cs f of unit.
-      let start : logStart (b .tables) u (length (book .now)) ≡ u * 200 =
-      ap (λ (x : Bench). logStart (x .tables) u (length (book .now))) f ∙ start-is P (planned-forest P planned) (after P cs) u _
-      (of .whole) unit in
-      e ∙ (λ i. (
-        book .ptr .0,
-        (let z : logStart (b .tables) u (length (book .now)) * 2 + book .ptr .1 ≡ book .ptr .1 + 2 * (u * 200) =
-            omega (arith, start) in z) i,
-      ));
+  short = λ l. from (book .ptr .1) (omega (arith, start-short (b .tables) u _ l));
+  refused = λ P planned cs f of over. from (book .ptr .1) (omega (arith, at f ∙ start-none P (after P cs) u _ (of .whole) over));
+  rule = λ P planned cs f of unit. from (book .ptr .1 + 2 * (u * 200))
+      (omega (arith, at f ∙ start-is P (planned-forest P planned) (after P cs) u _ (of .whole) unit));
 }
+  where
+    start : Bench → ℕ
+    start x = logStart (x .tables) u (length (book .now))
+
+    at : {x : Bench} → b ≡ x → start b ≡ start x
+    at f = ap start f
+
+    from : (x : ℕ) → start b * 2 + book .ptr .1 ≡ x → part .ptr ≡ (book .ptr .0, x)
+    from x same = e ∙ (λ i. (book .ptr .0, same i))

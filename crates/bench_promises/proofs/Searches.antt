@@ -113,7 +113,7 @@ module _ (P : Plan) (forest : Forest P) (ms : List Message) (hs : List Hop) (ls 
     q = nextPlace a lent
 
     moved : nextArrival a lent ≡ arrivalOf W′ s r (cond (eqb left 0) end (cond (isHeld (hopAt lent q)) q end)) end n
-    unfolding nextArrival movedTo moveTo arrivalOf hopsOf
+    unfolding nextArrival movedTo moveTo arrivalOf hopsOf isHeld
     moved = refl
 
     -- none is left

@@ -23,12 +23,13 @@ use Rattle.model.proofs.Hops.{length-snoc, count-snoc, count-length, sum-snoc}
 use Rattle.model.proofs.Sound.{Forest}
 use Rattle.forest_tables.specs.Computed.{tablesOf, primaryIn, routeIn}
 use Rattle.forest_tables.proofs.Columns.{primary-in, route-in, units-in, groups-in}
-use Rattle.bench_store.specs.Values.{plus, countOf, raised, gridIn}
+use Rattle.bench_store.specs.Values.{plus, countIn, addedIn}
 use Rattle.bench_promises.specs.declared.Totals.{Totals}
-use Rattle.bench_promises.specs.Machine.{sendRefusal, sentReply, firstHop, recordedTotals, recordedMessages, recordedPairs}
+use Rattle.bench_promises.specs.Machine.{sendRefusal, sentReply, sequenceOf, firstHop, recordedTotals, recordedMessages}
+use Rattle.bench_promises.specs.Machine.{recordedPairs}
 use Rattle.bench_promises.specs.Replies.{sendAnswer}
 use Rattle.bench_promises.specs.State.{Bench, padded, hopRecords, pairTable, totalsOf, benchOf}
-use Rattle.bench_promises.proofs.Padding.{plus-small, byte-small, padded-length, padded-snoc, append-set, pair-in, count-at}
+use Rattle.bench_promises.proofs.Padding.{plus-small, byte-small, padded-length, padded-snoc, append-set, count-at}
 use Rattle.bench_promises.proofs.Padding.{pair-same, pair-added, messages-snoc}
 
 -- a primary is a unit below 32, and a route holds it
@@ -66,30 +67,36 @@ pub count-made : (a b s r m : ℕ) (hs : List Hop) → pairCount a b (made s r m
 unfolding pairCount made newHop isPair
 count-made a b s r m hs = count-snoc (isPair a b) hs (newHop s r m hs)
 
-pub count-made-here : (s r m : ℕ) (hs : List Hop) → pairCount s r (made s r m hs) ≡ pairCount s r hs + 1
+count-made-here : (s r m : ℕ) (hs : List Hop) → pairCount s r (made s r m hs) ≡ pairCount s r hs + 1
 unfolding bit
 count-made-here s r m hs = count-made s r s r m hs ∙ ap (λ (k : ℕ). pairCount s r hs + k)
     (simp (eq-eqb s s refl) (simp (eq-eqb r r refl) refl))
 
-pub count-made-row : (s k r m : ℕ) (hs : List Hop) → (k ≡ r → ⊥) → pairCount s k (made s r m hs) ≡ pairCount s k hs
+count-made-row : (s k r m : ℕ) (hs : List Hop) → (k ≡ r → ⊥) → pairCount s k (made s r m hs) ≡ pairCount s k hs
 unfolding bit
 count-made-row s k r m hs ne =
     count-made s k s r m hs
     ∙ omega (arith, ap bit (ap (λ (t : Bool). eqb s s && t) (ne-eqb r k (λ e. ne (sym e))) ∙ and-false (eqb s s)))
 
-pub count-made-other : (a b s r m : ℕ) (hs : List Hop) → (a ≡ s → ⊥) → pairCount a b (made s r m hs) ≡ pairCount a b hs
+count-made-other : (a b s r m : ℕ) (hs : List Hop) → (a ≡ s → ⊥) → pairCount a b (made s r m hs) ≡ pairCount a b hs
 unfolding bit
 count-made-other a b s r m hs ne = count-made a b s r m hs ∙ omega
     (arith, ap (λ (t : Bool). bit (t && eqb r b)) (ne-eqb s a (λ e. ne (sym e))))
 
--- the counts of the pairs, with one more at s and r
-pub counts-made : (hs : List Hop) (s r m : ℕ) → s < 32 → r < 32 → pairCount s r hs < 65535
-    → raised (pairTable (λ a b. pairCount a b hs)) s r ≡ pairTable (λ a b. pairCount a b (made s r m hs))
-unfolding raised
-counts-made hs s r m bs br few =
-    cond-true _ _ _ (pair-in s r bs br)
-    ∙ pair-added (λ a b. pairCount a b hs) (λ a b. pairCount a b (made s r m hs)) s r 1 bs br (omega arith) (count-made-here s r m hs)
-    (λ k ne. count-made-row s k r m hs ne) (λ a b ne. count-made-other a b s r m hs ne)
+-- the counts of hops made, beside another array: with one more at s and r
+pub counts-made : (hs : List Hop) (t : List (List ℕ)) (s r m : ℕ) → s < 32 → r < 32 → pairCount s r hs < 65535
+    → addedIn (pairTable (λ a b. pairCount a b hs) ∷ t ∷ []) 0 s r 1 ≡ pairTable (λ a b. pairCount a b (made s r m hs)) ∷ t ∷ []
+counts-made hs t s r m bs br few =
+    pair-added (pairTable (λ a b. pairCount a b hs) ∷ t ∷ []) 0 (λ a b. pairCount a b hs) (λ a b. pairCount a b (made s r m hs)) s r 1 refl
+    refl bs br (omega arith) (count-made-here s r m hs) (λ k ne. count-made-row s k r m hs ne)
+    (λ a b ne. count-made-other a b s r m hs ne)
+
+-- the number of the next hop of a pair
+pub next-number : (hs : List Hop) (t : List (List ℕ)) (s r : ℕ) → s < 32 → r < 32 → pairCount s r hs < 65535
+    → plus (countIn (pairTable (λ a b. pairCount a b hs) ∷ t ∷ []) 0 s r) 1 ≡ suc (pairCount s r hs)
+next-number hs t s r bs br few =
+    ap (λ (n : ℕ). plus n 1) (count-at (pairTable (λ a b. pairCount a b hs) ∷ t ∷ []) 0 (λ a b. pairCount a b hs) s r refl refl bs br)
+    ∙ plus-small (pairCount s r hs) 1 (omega (arith, few)) ∙ add-one (pairCount s r hs)
 
 -- a hop just made is not taken
 pub taken-made : (s r m : ℕ) (hs : List Hop) → countHops isTaken (made s r m hs) ≡ countHops isTaken hs
@@ -141,7 +148,7 @@ module _ (P : Plan) (forest : Forest P) (ms : List Message) (hs : List Hop) (ls 
   pub record Sends (o : Outcome) : Type 0 where
     pub bench : recordedBench b s g w ≡ benchOf P (leftOf o)
     pub answer : sendAnswer (sentReply t 0) ≡ answerOf o
-    pub hops : set lent (t .made) (firstHop t (b .tables) (b .pairs) s g) ≡ hopRecords (leftOf o) ++ rest
+    pub hops : set lent (t .made) (firstHop t (b .tables) s g (sequenceOf (b .tables) s g (b .pairs))) ≡ hopRecords (leftOf o) ++ rest
 
   -- the refusal with this number, or 0, and the rule's outcome agree
   pub record Agree (number : ℕ) (o : Outcome) : Type 0 where
@@ -180,14 +187,17 @@ module _ (P : Plan) (forest : Forest P) (ms : List Message) (hs : List Hop) (ls 
     counted : pairCount s (primaryOf P g) hs < 65535
     counted = omega (arith, count-few s (primaryOf P g) hs, room)
 
-    hop-is : firstHop t (b .tables) (b .pairs) s g ≡ newHop s (primaryOf P g) (suc (length ms)) hs
-    unfolding firstHop gridIn newHop benchOf totalsOf messagesOf hopsOf
+    -- the taken hops of each pair
+    abbrev takes : List (List ℕ)
+    takes = pairTable (λ a c. pairTaken a c hs)
+
+    hop-is : firstHop t (b .tables) s g (sequenceOf (b .tables) s g (b .pairs)) ≡ newHop s (primaryOf P g) (suc (length ms)) hs
+    unfolding firstHop sequenceOf newHop benchOf totalsOf messagesOf hopsOf
     hop-is = λ i. record {
       sender = byte-small s (omega (arith, source-unit)) i;
       receiver = top i;
-      sequence = (ap (λ (r : ℕ). plus (countOf (pairTable (λ a c. pairCount a c hs)) s r) 1) top
-          ∙ ap (λ (n : ℕ). plus n 1) (count-at (λ a c. pairCount a c hs) s (primaryOf P g) source-unit (primary-unit P forest g bg))
-          ∙ plus-small (pairCount s (primaryOf P g) hs) 1 (omega (arith, counted)) ∙ add-one (pairCount s (primaryOf P g) hs)) i;
+      sequence = (ap (λ (r : ℕ). plus (countIn (pairTable (λ a c. pairCount a c hs) ∷ takes ∷ []) 0 s r) 1) top
+          ∙ next-number hs takes s (primaryOf P g) source-unit (primary-unit P forest g bg) counted) i;
       message = (plus-small (length ms) 1 (omega (arith, fewer)) ∙ add-one (length ms)) i;
       state = 0;
     }
@@ -205,14 +215,15 @@ module _ (P : Plan) (forest : Forest P) (ms : List Message) (hs : List Hop) (ls 
     }
 
     bench-is : recordedBench b s g w ≡ benchOf P W′
-    unfolding benchOf totalsOf recordedMessages recordedPairs gridIn messagesOf hopsOf logOf
+    unfolding benchOf totalsOf recordedMessages recordedPairs messagesOf hopsOf logOf
     bench-is = λ i. record {
       totals = totals-are i;
       tables = b .tables;
       messages = messages-snoc ms x fewer i;
-      pairs = (ap (λ (r : ℕ). raised (pairTable (λ a c. pairCount a c hs)) s r) top
-          ∙ counts-made hs s (primaryOf P g) (suc (length ms)) source-unit (primary-unit P forest g bg) counted) i
-          ∷ pair-same _ _ (λ a c ba bc. sym (takes-made a c s (primaryOf P g) (suc (length ms)) hs)) i ∷ [];
+      pairs = (ap (λ (r : ℕ). addedIn (pairTable (λ a c. pairCount a c hs) ∷ takes ∷ []) 0 s r 1) top
+          ∙ counts-made hs takes s (primaryOf P g) (suc (length ms)) source-unit (primary-unit P forest g bg) counted
+          ∙ ap (λ (x : List (List ℕ)). pairTable (λ a c. pairCount a c (made s (primaryOf P g) (suc (length ms)) hs)) ∷ x ∷ [])
+          (pair-same _ _ (λ a c ba bc. sym (takes-made a c s (primaryOf P g) (suc (length ms)) hs)))) i;
       gauges = b .gauges;
     }
 

@@ -22,43 +22,43 @@ use Rattle.model.proofs.Idle.{Idle}
 use Rattle.model.proofs.Sound.{Forest}
 use Rattle.model.proofs.Runs.{Valid, take-count}
 use Rattle.model.proofs.Theorems.{valid-limits}
-use Rattle.model.proofs.Progress.{TakenFirst, taken-first-take, next-place, idle-place, count-pair-state, take-taken, take-taken-other}
-use Rattle.model.proofs.Progress.{forward-count-sender}
+use Rattle.model.proofs.Progress.{TakenFirst, taken-first-take, next-place, idle-place, take-taken, take-taken-other}
 use Rattle.bench_promises.specs.declared.arrival.Arrival.{Arrival}
-use Rattle.bench_promises.specs.Machine.{takeArrival, takeRow, takeBook, nextArrival, isGoing, Settling, settled}
+use Rattle.bench_promises.specs.Machine.{takeArrival, takePairs, takeBook, nextArrival, isGoing, Settling, settled}
 use Rattle.bench_promises.specs.State.{padded, hopRecords, logBook, messageList}
 use Rattle.bench_promises.proofs.Sends.{tablesAt}
-use Rattle.bench_promises.proofs.Copies.{arrivalOf, rowFor, copy-state, copy-valid, copy-hops, copy-row, copy-book, copy-arrival}
+use Rattle.bench_promises.proofs.Copies.{arrivalOf, copy-state, copy-valid, copy-hops, copy-pairs, copy-book, copy-arrival}
 use Rattle.bench_promises.proofs.Copies.{few-after, log-same}
+use Rattle.bench_promises.proofs.Forwards.{pairsOf}
 use Rattle.bench_promises.proofs.Searches.{Onward, PairBelow, copy-below, onward}
 
 -- what n copies from s to r, taken since W₀, have left as it was, and what they have counted
 pub record Since (W₀ W : Network) (s r n : ℕ) : Type 0 where
   pub none : n ≡ 0 → W ≡ W₀
   pub messages : messagesOf W ≡ messagesOf W₀
-  pub counts : (a b : ℕ) → (a ≡ r → ⊥) → pairCount a b (hopsOf W) ≡ pairCount a b (hopsOf W₀)
   pub others : (a b : ℕ) → (a ≡ s → b ≡ r → ⊥) → pairTaken a b (hopsOf W) ≡ pairTaken a b (hopsOf W₀)
   pub own : pairTaken s r (hopsOf W) ≡ pairTaken s r (hopsOf W₀) + n
   pub all : countHops isTaken (hopsOf W) ≡ countHops isTaken (hopsOf W₀) + n
   pub logs : (u : ℕ) → (u ≡ r → ⊥) → logOf u W ≡ logOf u W₀
 
--- the arrival, the hops and the book of a state
-unfoldable pub settlingOf : Network → (s r at end n : ℕ) → List Hop → List ℕ → Settling
-settlingOf W s r at end n rest rest′ =
-    record { arrival = arrivalOf W s r at end n; row = rowFor W r; hops = hopRecords W ++ rest; book = logBook W ++ rest′ }
+-- the arrival, the counts, the hops and the book of a state; the hops taken are still counted as t
+unfoldable pub settlingOf : Network → (s r at end n : ℕ) → List Hop → List ℕ → List (List ℕ) → Settling
+settlingOf W s r at end n rest rest′ t =
+    record { arrival = arrivalOf W s r at end n; pairs = pairsOf (hopsOf W) t; hops = hopRecords W ++ rest; book = logBook W ++ rest′ }
 
 -- the loop ends in the state in which the rule ends, with as many copies taken
-pub record Ends (W₀ : Network) (s r end : ℕ) (rest : List Hop) (rest′ : List ℕ) (o : Settling) (out : Outcome) : Type 0 where
-  pub state : Network
-  pub taken : ℕ
-  pub place : ℕ
-  pub rule : out ≡ outcome (tally taken) state
-  pub loop : o ≡ settlingOf state s r place end taken rest rest′
-  pub since : Since W₀ state s r taken
-  pub few : length (hopsOf state) ≤ 2000
+pub record Ends (W₀ : Network) (s r end : ℕ) (rest : List Hop) (rest′ : List ℕ) (t : List (List ℕ)) (o : Settling) (out : Outcome) : Type 0
+  where
+    pub state : Network
+    pub taken : ℕ
+    pub place : ℕ
+    pub rule : out ≡ outcome (tally taken) state
+    pub loop : o ≡ settlingOf state s r place end taken rest rest′ t
+    pub since : Since W₀ state s r taken
+    pub few : length (hopsOf state) ≤ 2000
 
 -- nothing to take: the rule stops
-idle-settle : (k : ℕ) (P : Plan) (s r n : ℕ) (ms : List Message) (hs : List Hop) (ls : List (List ℕ)) → Numbered hs → Idle hs s r
+pub idle-settle : (k : ℕ) (P : Plan) (s r n : ℕ) (ms : List Message) (hs : List Hop) (ls : List (List ℕ)) → Numbered hs → Idle hs s r
     → settle k P s r n (network ms hs ls) ≡ outcome (tally n) (network ms hs ls)
 unfolding settle
 idle-settle zero P s r n ms hs ls num idle = refl
@@ -84,13 +84,14 @@ unfolding isGoing arrivalOf
 going-over W s r at end n over = ap (λ (t : Bool). t && ltb n 2000) (le-ltb at end over)
 
 -- not going: the loop stops
-still : (ts ms : List ℕ) (f : ℕ) (a : Arrival) (row : List ℕ) (hs : List Hop) (book : List ℕ) → isGoing a ≡ false
-    → settled ts ms f a row hs book ≡ record { arrival = a; row = row; hops = hs; book = book }
+still : (ts ms : List ℕ) (f : ℕ) (a : Arrival) (ps : List (List (List ℕ))) (hs : List Hop) (book : List ℕ) → isGoing a ≡ false
+    → settled ts ms f a ps hs book ≡ record { arrival = a; pairs = ps; hops = hs; book = book }
 unfolding settled
-still ts ms zero a row hs book t = refl
-still ts ms (suc f) a row hs book t = cond-false (isGoing a) _ _ t
+still ts ms zero a ps hs book none = refl
+still ts ms (suc f) a ps hs book none = cond-false (isGoing a) _ _ none
 
-module _ (P : Plan) (forest : Forest P) (W₀ : Network) (s r end : ℕ) (small : end ≤ 2000) (rest : List Hop) (rest′ : List ℕ) where
+module _ (P : Plan) (forest : Forest P) (W₀ : Network) (s r end : ℕ) (small : end ≤ 2000) (rest : List Hop) (rest′ : List ℕ)
+    (t : List (List ℕ)) where
   -- the loop's invariant at a state, the next copy being at place `at` and n taken
   pub record Before (W : Network) (at n : ℕ) : Type 0 where
     pub valid : Valid P forest W
@@ -138,14 +139,13 @@ module _ (P : Plan) (forest : Forest P) (W₀ : Network) (s r end : ℕ) (small 
     small-count = omega (arith, B .few)
 
     rule-is : takeHop P at W ≡ W′
-    rule-is = copy-state P forest ms hs ls (B .valid) s r at N rest rest′ end n small-count
+    rule-is = copy-state P forest ms hs ls (B .valid) s r at N rest rest′ t end n small-count
 
     since′ : Since W₀ W′ s r (suc n)
     unfolding messagesOf hopsOf
     since′ = record {
       none = λ e. absurd (omega arith);
       messages = B .since .messages;
-      counts = λ a b ne. forward-count-sender a b r m cs (setState at 2 hs) ne ∙ count-pair-state a b at 2 hs ∙ B .since .counts a b ne;
       others = λ a b ne. take-taken-other s r r m cs hs at N a b ne ∙ B .since .others a b ne;
       own = omega (arith, take-taken s r r m cs hs at N, B .since .own);
       all = omega (
@@ -155,18 +155,18 @@ module _ (P : Plan) (forest : Forest P) (W₀ : Network) (s r end : ℕ) (small 
         B .since
             .all,
       );
-      logs = λ u ne. log-same P forest ms hs ls (B .valid) s r at N rest rest′ end n small-count u ne ∙ B .since .logs u ne;
+      logs = λ u ne. log-same P forest ms hs ls (B .valid) s r at N rest rest′ t end n small-count u ne ∙ B .since .logs u ne;
     }
 
     on : Onward W′ s r at end (suc n) (padded 2000 noHop hs′ ++ rest)
     unfolding hopsOf
     on = onward P forest ms hs ls′ s r at N (B .first) end (B .below) m (routeOf P g)
-        (few-after P forest ms hs ls (B .valid) s r at N rest rest′ end n small-count) rest (suc n) going
+        (few-after P forest ms hs ls (B .valid) s r at N rest rest′ t end n small-count) rest (suc n) going
 
     before′ : Before W′ (on .place) (suc n)
     unfolding hopsOf
     before′ = record {
-      valid = copy-valid P forest ms hs ls (B .valid) s r at N rest rest′ end n small-count;
+      valid = copy-valid P forest ms hs ls (B .valid) s r at N rest rest′ t end n small-count;
       first = taken-first-take s r r m cs hs at N (B .first);
       below = copy-below P forest ms hs ls′ s r at N (B .first) end (B .below) m (routeOf P g);
       next = on .next;
@@ -191,34 +191,35 @@ module _ (P : Plan) (forest : Forest P) (W₀ : Network) (s r end : ℕ) (small 
     abbrev ns : List ℕ
     ns = messageList ms
 
-    abbrev row : List ℕ
-    row = rowFor W r
+    abbrev ps : List (List (List ℕ))
+    ps = pairsOf hs t
 
     abbrev lent′ : List Hop
     lent′ = padded 2000 noHop hs′ ++ rest
 
-    loop-is : (f : ℕ) → settled ts ns (suc f) start row lent book
-        ≡ settled ts ns f (arrivalOf W′ s r (on .place) end (suc n)) (rowFor W′ r) (hopRecords W′ ++ rest) (logBook W′ ++ rest′)
+    loop-is : (f : ℕ) → settled ts ns (suc f) start ps lent book
+        ≡ settled ts ns f (arrivalOf W′ s r (on .place) end (suc n)) (pairsOf hs′ t) (hopRecords W′ ++ rest) (logBook W′ ++ rest′)
     unfolding settled hopRecords hopsOf
     loop-is f =
         cond-true (isGoing start) _ _ (going-on W s r at end n going (omega (arith, B .few)))
-        ∙ ap (λ (x : List Hop). settled ts ns f (nextArrival (takeArrival ts ns start row lent) x) (takeRow ts ns start row lent) x
+        ∙ ap (λ (x : List Hop). settled ts ns f (nextArrival (takeArrival ts ns start ps lent) x) (takePairs ts ns start ps lent) x
         (takeBook ts ns start lent book))
-        (copy-hops P forest ms hs ls (B .valid) s r at N rest rest′ end n small-count)
-        ∙ ap (λ (x : Arrival). settled ts ns f (nextArrival x lent′) (takeRow ts ns start row lent) lent′ (takeBook ts ns start lent book))
-        (copy-arrival P forest ms hs ls (B .valid) s r at N rest rest′ end n small-count)
-        ∙ ap (λ (x : Arrival). settled ts ns f x (takeRow ts ns start row lent) lent′ (takeBook ts ns start lent book)) (on .moves)
-        ∙ ap (λ (x : List ℕ). settled ts ns f (arrivalOf W′ s r (on .place) end (suc n)) x lent′ (takeBook ts ns start lent book))
-        (copy-row P forest ms hs ls (B .valid) s r at N rest rest′ end n small-count)
-        ∙ ap (settled ts ns f (arrivalOf W′ s r (on .place) end (suc n)) (rowFor W′ r) lent′)
-        (copy-book P forest ms hs ls (B .valid) s r at N rest rest′ end n small-count)
+        (copy-hops P forest ms hs ls (B .valid) s r at N rest rest′ t end n small-count)
+        ∙ ap (λ (x : Arrival). settled ts ns f (nextArrival x lent′) (takePairs ts ns start ps lent) lent′ (takeBook ts ns start lent book))
+        (copy-arrival P forest ms hs ls (B .valid) s r at N rest rest′ t end n small-count)
+        ∙ ap (λ (x : Arrival). settled ts ns f x (takePairs ts ns start ps lent) lent′ (takeBook ts ns start lent book)) (on .moves)
+        ∙ ap (λ (x : List (List (List ℕ))). settled ts ns f (arrivalOf W′ s r (on .place) end (suc n)) x lent′
+        (takeBook ts ns start lent book))
+        (copy-pairs P forest ms hs ls (B .valid) s r at N rest rest′ t end n small-count)
+        ∙ ap (settled ts ns f (arrivalOf W′ s r (on .place) end (suc n)) (pairsOf hs′ t) lent′)
+        (copy-book P forest ms hs ls (B .valid) s r at N rest rest′ t end n small-count)
 
   -- ---- all copies
 
   abbrev EndsFrom : ℕ → ℕ → (ms : List Message) (hs : List Hop) (ls : List (List ℕ)) → ℕ → ℕ → Type 0
   EndsFrom f k ms hs ls at n =
       let W = network ms hs ls in
-      Ends W₀ s r end rest rest′ (settled (tablesAt P) (messageList ms) f (arrivalOf W s r at end n) (rowFor W r) (hopRecords W ++ rest)
+      Ends W₀ s r end rest rest′ t (settled (tablesAt P) (messageList ms) f (arrivalOf W s r at end n) (pairsOf hs t) (hopRecords W ++ rest)
       (logBook W ++ rest′))
       (settle k P s r n W)
 

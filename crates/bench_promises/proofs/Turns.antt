@@ -11,10 +11,11 @@ use lib.Dec.{T, ltb, eqb, ltb→lt}
 use borrow.Author.Tests.{lt-ltb}
 use Rattle.sets.proofs.Bools.{cond-true, cond-false}
 use Rattle.model.specs.declared.Hop.{Hop}
-use Rattle.model.specs.Network.{hopAt, isHeld}
+use Rattle.model.specs.Network.{hopAt}
 use Rattle.hops.proofs.Places.{came-true, came-false}
 use Rattle.bench_promises.specs.declared.arrival.Arrival.{Arrival}
-use Rattle.bench_promises.specs.Machine.{afterCopy, moveTo, takeArrival, takeRow, takeHops, takeBook, searchFrom, searchEnd, movedTo}
+use Rattle.bench_promises.specs.Machine.{afterCopy, moveTo, takeArrival, takePairs, takeHops, takeBook, searchFrom, searchEnd}
+use Rattle.bench_promises.specs.Machine.{movedTo}
 use Rattle.bench_promises.specs.Machine.{nextPlace, nextArrival, isGoing, Settling, settled, settledFrom}
 use Rattle.bench_promises.proofs.Searches.{search-first}
 
@@ -45,7 +46,8 @@ next-later a hs l =
       search-first (searchEnd a - searchFrom a) (a .sender)
           (a .receiver) (searchFrom a) hs .from,
     ) in
-    least (eqb (a .left) 0) (suc (a .at)) (a .end) _ l (least (isHeld (hopAt hs (nextPlace a hs))) (suc (a .at)) (nextPlace a hs) (a .end)
+    least (eqb (a .left) 0) (suc (a .at)) (a .end) _ l (least (eqb (hopAt hs (nextPlace a hs) .state) 1) (suc (a .at)) (nextPlace a hs)
+    (a .end)
     found l)
 
 next-end : (a : Arrival) (hs : List Hop) → nextArrival a hs .end ≡ a .end
@@ -53,57 +55,60 @@ unfolding nextArrival movedTo moveTo
 next-end a hs = refl
 
 module _ (ts ms : List ℕ) where
-  take-at : (a : Arrival) (row : List ℕ) (hs : List Hop) → takeArrival ts ms a row hs .at ≡ a .at
+  take-at : (a : Arrival) (ps : List (List (List ℕ))) (hs : List Hop) → takeArrival ts ms a ps hs .at ≡ a .at
   unfolding takeArrival afterCopy
-  take-at a row hs = refl
+  take-at a ps hs = refl
 
-  take-end : (a : Arrival) (row : List ℕ) (hs : List Hop) → takeArrival ts ms a row hs .end ≡ a .end
+  take-end : (a : Arrival) (ps : List (List (List ℕ))) (hs : List Hop) → takeArrival ts ms a ps hs .end ≡ a .end
   unfolding takeArrival afterCopy
-  take-end a row hs = refl
+  take-end a ps hs = refl
 
   -- the arrival after a turn
-  abbrev pub onward : Arrival → (row : List ℕ) → List Hop → Arrival
-  onward a row hs = nextArrival (takeArrival ts ms a row hs) (takeHops ts ms a row hs)
+  abbrev pub onward : Arrival → (ps : List (List (List ℕ))) → List Hop → Arrival
+  onward a ps hs = nextArrival (takeArrival ts ms a ps hs) (takeHops ts ms a ps hs)
 
   abbrev pub ahead : Arrival → ℕ
   ahead a = a .end - a .at
 
-  pub nearer : (a : Arrival) (row : List ℕ) (hs : List Hop) → T (isGoing a) → ahead (onward a row hs) < ahead a
-  nearer a row hs goes =
-      let b = takeArrival ts ms a row hs in
+  pub nearer : (a : Arrival) (ps : List (List (List ℕ))) (hs : List Hop) → T (isGoing a) → ahead (onward a ps hs) < ahead a
+  nearer a ps hs goes =
+      let b = takeArrival ts ms a ps hs in
       let l = going a goes in
-      let m : b .at < b .end = omega (arith, l, take-at a row hs, take-end a row hs) in
-      omega (arith, l, next-later b (takeHops ts ms a row hs) m, next-end b (takeHops ts ms a row hs), take-at a row hs, take-end a row hs)
+      let m : b .at < b .end = omega (arith, l, take-at a ps hs, take-end a ps hs) in
+      omega (arith, l, next-later b (takeHops ts ms a ps hs) m, next-end b (takeHops ts ms a ps hs), take-at a ps hs, take-end a ps hs)
 
   -- ---- the loop's invariant
 
   -- it leads to the end that the start leads to
-  pub record Leads (end : Settling) (k : ℕ) (a : Arrival) (row : List ℕ) (hs : List Hop) (book : List ℕ) : Type 0 where
+  pub record Leads (end : Settling) (k : ℕ) (a : Arrival) (ps : List (List (List ℕ))) (hs : List Hop) (book : List ℕ) : Type 0 where
     pub enough : ahead a ≤ k
-    pub same : settled ts ms k a row hs book ≡ end
+    pub same : settled ts ms k a ps hs book ≡ end
 
-  pub at-start : (a : Arrival) (row : List ℕ) (hs : List Hop) (book : List ℕ) → Leads (settledFrom ts ms a row hs book) (ahead a) a row hs
+  pub at-start : (a : Arrival) (ps : List (List (List ℕ))) (hs : List Hop) (book : List ℕ)
+      → Leads (settledFrom ts ms a ps hs book) (ahead a) a ps hs
       book
   unfolding settledFrom
-  at-start a row hs book = record { enough = omega arith; same = refl }
+  at-start a ps hs book = record { enough = omega arith; same = refl }
 
-  pub turned : {end : Settling} (k : ℕ) (a : Arrival) (row : List ℕ) (hs : List Hop) (book : List ℕ) → T (isGoing a) → Leads end k a row hs
+  pub turned : {end : Settling} (k : ℕ) (a : Arrival) (ps : List (List (List ℕ))) (hs : List Hop) (book : List ℕ) → T (isGoing a)
+      → Leads end k a ps hs
       book
-      → (j : ℕ) × Leads end j (onward a row hs) (takeRow ts ms a row hs) (takeHops ts ms a row hs) (takeBook ts ms a hs book)
+      → (j : ℕ) × Leads end j (onward a ps hs) (takePairs ts ms a ps hs) (takeHops ts ms a ps hs) (takeBook ts ms a hs book)
   unfolding settled
-  turned zero a row hs book goes r = let none : 1 ≤ 0 = omega (arith, going a goes, r .enough) in absurd (not-suc-le-zero none)
-  turned (suc k) a row hs book goes r = (
+  turned zero a ps hs book goes r = let none : 1 ≤ 0 = omega (arith, going a goes, r .enough) in absurd (not-suc-le-zero none)
+  turned (suc k) a ps hs book goes r = (
     k,
     record {
-      enough = omega (arith, nearer a row hs goes, r .enough);
+      enough = omega (arith, nearer a ps hs goes, r .enough);
       same = sym (cond-true (isGoing a) _ _ (came-true (isGoing a) goes)) ∙
           r .same;
     },
   )
 
-  pub over : {end : Settling} (k : ℕ) (a : Arrival) (row : List ℕ) (hs : List Hop) (book : List ℕ) → T (not (isGoing a)) → Leads end k a
-      row hs book
-      → record { arrival = a; row = row; hops = hs; book = book } ≡ end
+  pub over : {end : Settling} (k : ℕ) (a : Arrival) (ps : List (List (List ℕ))) (hs : List Hop) (book : List ℕ) → T (not (isGoing a))
+      → Leads end k a
+      ps hs book
+      → record { arrival = a; pairs = ps; hops = hs; book = book } ≡ end
   unfolding settled
-  over zero a row hs book stops r = r .same
-  over (suc k) a row hs book stops r = sym (cond-false (isGoing a) _ _ (came-false (isGoing a) stops)) ∙ r .same
+  over zero a ps hs book stops r = r .same
+  over (suc k) a ps hs book stops r = sym (cond-false (isGoing a) _ _ (came-false (isGoing a) stops)) ∙ r .same

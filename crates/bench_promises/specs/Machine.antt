@@ -10,10 +10,9 @@ use Rattle.model.specs.declared.Hop.{Hop}
 use Rattle.model.specs.Network.{noHop, hopAt, setState, isOut, isHeld}
 use Rattle.model.specs.Rules.{refuse}
 use Rattle.forest_tables.specs.Computed.{tablesOf, groupIn, routeIn, primaryIn, childrenIn, unitCount, groupCount}
-use Rattle.bench_store.specs.Values.{plus, byte, filled, columnAt, withColumn, noCounts, countOf, raised, gridIn, countIn, addedIn, rowIn}
-use Rattle.bench_store.specs.Values.{withRowIn, logged}
+use Rattle.bench_store.specs.Values.{plus, byte, filled, columnAt, withColumn, noCounts, countIn, addedIn, logged}
 use Rattle.hops.specs.declared.forwarding.Outgoing.{Outgoing}
-use Rattle.hops.specs.Access.{nextOfPair, Forwarding, withCounts, forwarded, forwardedHops}
+use Rattle.hops.specs.Access.{nextOfPair, Forwarding, withPairs, forwarded, forwardedHops}
 use Rattle.bench_promises.specs.declared.Totals.{Totals}
 use Rattle.bench_promises.specs.declared.arrival.Arrival.{Arrival}
 use Rattle.bench_promises.specs.declared.arrival.Delivery.{Delivery}
@@ -72,10 +71,12 @@ sentReply t refusal =
     (refuse (eqb refusal 14) TooManyMessages
     (refuse (eqb refusal 15) RoutesTooLong (Sent (plus (t .sent) 1))))))
 
-unfoldable pub firstHop : Totals → (ts : List ℕ) → (ps : List (List (List ℕ))) → (source group : ℕ) → Hop
-firstHop t ts ps s g =
-    let top = primaryIn ts g in
-    record { sender = byte s; receiver = top; sequence = plus (countOf (gridIn ps 0) s top) 1; message = plus (t .sent) 1; state = 0 }
+-- the number of its hop among those of the pair
+unfoldable pub sequenceOf : (ts : List ℕ) → (source group : ℕ) → List (List (List ℕ)) → ℕ
+sequenceOf ts s g ps = plus (countIn ps 0 s (primaryIn ts g)) 1
+
+unfoldable pub firstHop : Totals → (ts : List ℕ) → (source group sequence : ℕ) → Hop
+firstHop t ts s g n = record { sender = byte s; receiver = primaryIn ts g; sequence = n; message = plus (t .sent) 1; state = 0 }
 
 unfoldable pub recordedTotals : Totals → (ts : List ℕ) → ℕ → Totals
 recordedTotals t ts g = record {
@@ -89,7 +90,7 @@ unfoldable pub recordedMessages : Totals → (source group word : ℕ) → List 
 recordedMessages t s g w ms = withColumn (withColumn (withColumn ms 0 200 (t .sent) s) 200 200 (t .sent) g) 400 200 (t .sent) w
 
 unfoldable pub recordedPairs : (ts : List ℕ) → (source group : ℕ) → List (List (List ℕ)) → List (List (List ℕ))
-recordedPairs ts s g ps = set ps 0 (raised (gridIn ps 0) s (primaryIn ts g))
+recordedPairs ts s g ps = addedIn ps 0 s (primaryIn ts g) 1
 
 -- ---- an arrival begins
 
@@ -108,21 +109,19 @@ closedReply refusal = refuse (eqb refusal 1) ArriveTooShort (refuse (eqb refusal
 unfoldable pub isNext : ℕ → Hop → Bool
 isNext taken h = eqb (h .sequence) (plus taken 1)
 
--- the arrival of the hop at a place, of which at most so many copies are taken
-unfoldable pub begun : Totals → (ps : List (List (List ℕ))) → (gs : List ℕ) → (place : ℕ) → Hop → (copies : ℕ) → Arrival
-begun t ps gs i h copies =
-    let taken = countIn ps 1 (h .sender) (h .receiver) in
-    record {
-      sender = h .sender;
-      receiver = h .receiver;
-      at = cond (isNext taken h) i (t .made);
-      end = t .made;
-      left = countIn ps 0 (h .sender) (h .receiver) - taken;
-      taken = 0;
-      copies = copies;
-      length = columnAt gs 0 32 (h .receiver);
-      made = t .made;
-    }
+-- the arrival of the hop at a place, of whose pair `taken` were taken; at most so many copies more are
+unfoldable pub begun : Totals → (ps : List (List (List ℕ))) → (gs : List ℕ) → (place : ℕ) → Hop → (taken copies : ℕ) → Arrival
+begun t ps gs i h taken copies = record {
+  sender = h .sender;
+  receiver = h .receiver;
+  at = i;
+  end = t .made;
+  left = countIn ps 0 (h .sender) (h .receiver) - taken;
+  taken = 0;
+  copies = copies;
+  length = columnAt gs 0 32 (h .receiver);
+  made = t .made;
+}
 
 -- ---- one copy is taken
 
@@ -156,22 +155,21 @@ afterCopy a d made = record {
   made = made;
 }
 
--- `row` counts the hops made from the receiver to each unit
 module _ (ts ms : List ℕ) where
   unfoldable pub deliveryAt : Arrival → List Hop → Delivery
   deliveryAt a hs = deliveryTo ts ms (a .receiver) (hopAt hs (a .at) .message)
 
-  unfoldable pub forwarding : Arrival → (row : List ℕ) → List Hop → Forwarding
-  forwarding a row hs = withCounts row (outgoing a (deliveryAt a hs))
+  unfoldable pub forwarding : Arrival → (ps : List (List (List ℕ))) → List Hop → Forwarding
+  forwarding a ps hs = withPairs ps (outgoing a (deliveryAt a hs))
 
-  unfoldable pub takeArrival : Arrival → (row : List ℕ) → List Hop → Arrival
-  takeArrival a row hs = afterCopy a (deliveryAt a hs) (forwarded 32 (forwarding a row hs) .made)
+  unfoldable pub takeArrival : Arrival → (ps : List (List (List ℕ))) → List Hop → Arrival
+  takeArrival a ps hs = afterCopy a (deliveryAt a hs) (forwarded 32 (forwarding a ps hs) .made)
 
-  unfoldable pub takeRow : Arrival → (row : List ℕ) → List Hop → List ℕ
-  takeRow a row hs = forwarded 32 (forwarding a row hs) .counts
+  unfoldable pub takePairs : Arrival → (ps : List (List (List ℕ))) → List Hop → List (List (List ℕ))
+  takePairs a ps hs = forwarded 32 (forwarding a ps hs) .pairs
 
-  unfoldable pub takeHops : Arrival → (row : List ℕ) → List Hop → List Hop
-  takeHops a row hs = forwardedHops 32 (forwarding a row hs) (setState (a .at) 2 hs)
+  unfoldable pub takeHops : Arrival → (ps : List (List (List ℕ))) → List Hop → List Hop
+  takeHops a ps hs = forwardedHops 32 (forwarding a ps hs) (setState (a .at) 2 hs)
 
   unfoldable pub takeBook : Arrival → List Hop → List ℕ → List ℕ
   takeBook a hs book = logCopy a (deliveryAt a hs) book
@@ -198,14 +196,14 @@ searchFrom a = cond (ltb (a .at) (a .end)) (suc (a .at)) (a .end)
 unfoldable pub searchEnd : Arrival → ℕ
 searchEnd a = cond (eqb (a .left) 0) 0 (a .end)
 
-unfoldable pub movedTo : Arrival → ℕ → Hop → Arrival
-movedTo a i h = moveTo a (cond (eqb (a .left) 0) (a .end) (cond (isHeld h) i (a .end)))
+unfoldable pub movedTo : Arrival → (place state : ℕ) → Arrival
+movedTo a i state = moveTo a (cond (eqb (a .left) 0) (a .end) (cond (eqb state 1) i (a .end)))
 
 unfoldable pub nextPlace : Arrival → List Hop → ℕ
 nextPlace a hs = nextOfPair (searchEnd a - searchFrom a) (a .sender) (a .receiver) (searchFrom a) hs
 
 unfoldable pub nextArrival : Arrival → List Hop → Arrival
-nextArrival a hs = movedTo a (nextPlace a hs) (hopAt hs (nextPlace a hs))
+nextArrival a hs = movedTo a (nextPlace a hs) (hopAt hs (nextPlace a hs) .state)
 
 unfoldable pub isGoing : Arrival → Bool
 isGoing a = ltb (a .at) (a .end) && ltb (a .taken) (a .copies)
@@ -213,21 +211,21 @@ isGoing a = ltb (a .at) (a .end) && ltb (a .taken) (a .copies)
 -- an arrival with the counts, the hops and the book that it leaves
 pub record Settling : Type 0 where
   pub arrival : Arrival
-  pub row : List ℕ
+  pub pairs : List (List (List ℕ))
   pub hops : List Hop
   pub book : List ℕ
 
 module _ (ts ms : List ℕ) where
-  unfoldable pub settled : ℕ → Arrival → (row : List ℕ) → List Hop → List ℕ → Settling
-  settled zero a row hs book = record { arrival = a; row = row; hops = hs; book = book }
-  settled (suc k) a row hs book =
-      let left = takeHops ts ms a row hs in
-      let more = settled k (nextArrival (takeArrival ts ms a row hs) left) (takeRow ts ms a row hs) left (takeBook ts ms a hs book) in
-      cond (isGoing a) more (record { arrival = a; row = row; hops = hs; book = book })
+  unfoldable pub settled : ℕ → Arrival → (ps : List (List (List ℕ))) → List Hop → List ℕ → Settling
+  settled zero a ps hs book = record { arrival = a; pairs = ps; hops = hs; book = book }
+  settled (suc k) a ps hs book =
+      let left = takeHops ts ms a ps hs in
+      let more = settled k (nextArrival (takeArrival ts ms a ps hs) left) (takePairs ts ms a ps hs) left (takeBook ts ms a hs book) in
+      cond (isGoing a) more (record { arrival = a; pairs = ps; hops = hs; book = book })
 
   -- with as many turns as the arrival can have
-  unfoldable pub settledFrom : Arrival → (row : List ℕ) → List Hop → List ℕ → Settling
-  settledFrom a row hs book = settled (a .end - a .at) a row hs book
+  unfoldable pub settledFrom : Arrival → (ps : List (List (List ℕ))) → List Hop → List ℕ → Settling
+  settledFrom a ps hs book = settled (a .end - a .at) a ps hs book
 
 -- ---- an arrival ends
 
@@ -235,9 +233,8 @@ unfoldable pub finishedTotals : Totals → Arrival → Totals
 finishedTotals t a =
     cond (eqb (a .taken) 0) t (record { made = a .made; taken = plus (t .taken) (a .taken); sent = t .sent; routed = t .routed })
 
-unfoldable pub finishedPairs : Arrival → (row : List ℕ) → List (List (List ℕ)) → List (List (List ℕ))
-finishedPairs a row ps =
-    cond (eqb (a .taken) 0) ps (addedIn (withRowIn ps 0 (a .receiver) row) 1 (a .sender) (a .receiver) (a .taken))
+unfoldable pub finishedPairs : Arrival → List (List (List ℕ)) → List (List (List ℕ))
+finishedPairs a ps = cond (eqb (a .taken) 0) ps (addedIn ps 1 (a .sender) (a .receiver) (a .taken))
 
 unfoldable pub finishedGauges : Arrival → List ℕ → List ℕ
 finishedGauges a gs = cond (eqb (a .taken) 0) gs (withColumn gs 0 32 (a .receiver) (a .length))
@@ -245,12 +242,13 @@ finishedGauges a gs = cond (eqb (a .taken) 0) gs (withColumn gs 0 32 (a .receive
 unfoldable pub finishedReply : Arrival → ArriveReply
 finishedReply a = refuse (eqb (a .taken) 0) Held (Taken (a .taken))
 
--- from its beginning to its end: the hop j, which is out, is held, and its pair settled. Every copy that waits is taken: there are at most
--- 2,000.
+-- from its beginning to its end: the hop j, which is out and the next of its pair, is held, and its pair settled. Every copy that waits is
+-- taken: there are at most 2,000.
 module _ (t : Totals) (ts ms : List ℕ) (ps : List (List (List ℕ))) (gs : List ℕ) where
   unfoldable pub arriveEnd : ℕ → List Hop → List ℕ → Settling
   arriveEnd j hs book =
-      let h = hopAt hs j in settledFrom ts ms (begun t ps gs j h 2000) (rowIn ps 0 (h .receiver)) (setState j 1 hs) book
+      let h = hopAt hs j in
+      settledFrom ts ms (begun t ps gs j h (countIn ps 1 (h .sender) (h .receiver)) 2000) ps (setState j 1 hs) book
 
 -- ---- rest
 

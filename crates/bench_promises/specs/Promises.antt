@@ -103,8 +103,12 @@ pub record LogPromise (b : Bench) (unit : ℕ) (book part : List ℕ) : Type 0 w
   pub rule : (P : Plan) → Planned P → (cs : List Call) → b ≡ benchOf P (after P cs) → OfBook (after P cs) book
       → (part ≡ handedBack (log P unit (length book) (after P cs))) × (part ≡ take (length part) (drop (unit * 200) book))
 
--- and it is that part of the lent book itself: in the same block of memory, from the byte where the unit's row starts
+-- and it is that part of the lent book itself: in the same block of memory, from the byte where the unit's row starts; the empty part that
+-- is handed back beside a refusal starts where the book does
 pub record LogPlace (b : Bench) (unit : ℕ) (book part : RefT (List ℕ)) : Type 0 where
+  pub short : length (book .now) < 6400 → part .ptr ≡ book .ptr
+  pub refused : (P : Plan) → Planned P → (cs : List Call) → b ≡ benchOf P (after P cs) → OfBook (after P cs) (book .now) → P .units ≤ unit
+      → part .ptr ≡ book .ptr
   pub rule : (P : Plan) → Planned P → (cs : List Call) → b ≡ benchOf P (after P cs) → OfBook (after P cs) (book .now) → unit < P .units
       → part .ptr ≡ (book .ptr .0, book .ptr .1 + 2 * (unit * 200))
 

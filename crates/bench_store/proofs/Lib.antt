@@ -1,4 +1,3 @@
 pub mod ColumnLaws
-pub mod Entries
 pub mod Parts
 pub mod Grids

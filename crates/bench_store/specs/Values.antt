@@ -40,19 +40,13 @@ noCounts = replicate 32 (replicate 32 0)
 unfoldable pub isPair : ℕ → ℕ → Bool
 isPair s r = ltb s 32 && ltb r 32
 
-unfoldable pub countOf : List (List ℕ) → ℕ → ℕ → ℕ
-countOf grid s r = cond (isPair s r) (getD (getD grid s []) r 0) 0
-
--- one more for a pair
-unfoldable pub raised : List (List ℕ) → ℕ → ℕ → List (List ℕ)
-raised grid s r = cond (isPair s r) (set grid s (added (getD grid s []) r 1)) grid
+-- the row of a sender with one more for a pair
+unfoldable pub raisedRow : List (List ℕ) → ℕ → ℕ → List ℕ
+raisedRow grid s r = cond (isPair s r) (added (getD grid s []) r 1) (replicate 32 0)
 
 -- ---- a list of such arrays
 
--- array k
-unfoldable pub gridIn : List (List (List ℕ)) → ℕ → List (List ℕ)
-gridIn pairs k = getD pairs k noCounts
-
+-- the count of a pair in array k
 unfoldable pub countIn : List (List (List ℕ)) → (k s r : ℕ) → ℕ
 countIn pairs k s r = cond (ltb k (length pairs) && isPair s r) (getD (getD (getD pairs k []) s []) r 0) 0
 
@@ -64,9 +58,6 @@ addedIn pairs k s r n =
 -- the counts of a sender
 unfoldable pub rowIn : List (List (List ℕ)) → (k s : ℕ) → List ℕ
 rowIn pairs k s = cond (ltb k (length pairs) && ltb s 32) (getD (getD pairs k []) s []) (replicate 32 0)
-
-unfoldable pub withRowIn : List (List (List ℕ)) → (k s : ℕ) → List ℕ → List (List (List ℕ))
-withRowIn pairs k s row = cond (ltb k (length pairs) && ltb s 32) (set pairs k (set (getD pairs k []) s row)) pairs
 
 -- ---- the log book
 

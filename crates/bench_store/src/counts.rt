@@ -3,8 +3,7 @@
 use crate::Limits;
 use crate::plus;
 ghost use mathlib.Core.Path.{_≡_};
-ghost use lib.ListN.{set};
-ghost use Rattle.bench_store.specs.Values.{countOf, raised as raisedOf, gridIn, countIn, addedIn, rowIn, withRowIn};
+ghost use Rattle.bench_store.specs.Values.{plus as plusOf, raisedRow, countIn, addedIn, rowIn};
 
 pub struct PairCounts {
     pub grids: [[[u16; Limits::UNITS]; Limits::UNITS]; 2],
@@ -31,46 +30,23 @@ pub fn of_grids(grids: [[[u16; Limits::UNITS]; Limits::UNITS]; 2]) -> PairCounts
     PairCounts { grids }
 }
 
-// The count of a pair.
-pub fn count(grid: [[u16; Limits::UNITS]; Limits::UNITS], sender: usize, receiver: usize) -> u16
-    ensures { λ r. ⌜ r ≡ countOf grid sender receiver ⌝ }
-{
-    if sender < Limits::UNITS {
-        if receiver < Limits::UNITS {
-            return grid[sender][receiver];
-        }
-    }
-    0
-}
-
-// The counts with one more for a pair.
-pub fn raised(
+// The counts of a sender with one more to a receiver.
+fn raised(
     grid: [[u16; Limits::UNITS]; Limits::UNITS],
     sender: usize,
     receiver: usize,
-) -> [[u16; Limits::UNITS]; Limits::UNITS]
-    ensures { λ r. ⌜ r ≡ raisedOf grid sender receiver ⌝ }
+) -> [u16; Limits::UNITS]
+    ensures { λ r. ⌜ r ≡ raisedRow grid sender receiver ⌝ }
 {
-    let mut next = grid;
-    if sender < Limits::UNITS {
-        if receiver < Limits::UNITS {
-            next[sender][receiver] = plus(grid[sender][receiver], 1);
-        }
+    if Limits::UNITS <= sender {
+        return [0u16; Limits::UNITS];
     }
-    next
-}
-
-// Array k of a list.
-pub fn grid(
-    pairs: &[[[u16; Limits::UNITS]; Limits::UNITS]],
-    k: usize,
-) -> [[u16; Limits::UNITS]; Limits::UNITS]
-    ensures { λ r. ⌜ r ≡ gridIn (now (pairs .entry)) k ⌝ }
-{
-    if k < pairs.len() {
-        return pairs[k];
+    if Limits::UNITS <= receiver {
+        return [0u16; Limits::UNITS];
     }
-    [[0u16; Limits::UNITS]; Limits::UNITS]
+    let mut row = grid[sender];
+    row[receiver] = plus(row[receiver], 1);
+    row
 }
 
 // The count of a pair in array k.
@@ -94,26 +70,53 @@ pub fn number(
     pairs[k][sender][receiver]
 }
 
-// n more for a pair in array k.
+// n more for a pair in array k: its count then.
 pub fn add(
     pairs: &mut [[[u16; Limits::UNITS]; Limits::UNITS]],
     k: usize,
     sender: usize,
     receiver: usize,
     n: u16,
-)
-    ensures { λ _. ⌜ now (pairs .exit) ≡ addedIn (now (pairs .entry)) k sender receiver n ⌝ }
+) -> u16
+    ensures { λ r. ⌜ (r ≡ plusOf (countIn (now (pairs .entry)) k sender receiver) n)
+        × (now (pairs .exit) ≡ addedIn (now (pairs .entry)) k sender receiver n) ⌝ }
 {
     if pairs.len() <= k {
-        return;
+        return n;
     }
     if Limits::UNITS <= sender {
-        return;
+        return n;
     }
     if Limits::UNITS <= receiver {
-        return;
+        return n;
     }
-    pairs[k][sender][receiver] = plus(pairs[k][sender][receiver], n);
+    let count = plus(pairs[k][sender][receiver], n);
+    pairs[k][sender][receiver] = count;
+    count
+}
+
+// One more for a pair in array k, which goes through `raised` by value: its count then.
+pub fn raise_by_value(
+    pairs: &mut [[[u16; Limits::UNITS]; Limits::UNITS]],
+    k: usize,
+    sender: usize,
+    receiver: usize,
+) -> u16
+    ensures { λ r. ⌜ (r ≡ plusOf (countIn (now (pairs .entry)) k sender receiver) 1)
+        × (now (pairs .exit) ≡ addedIn (now (pairs .entry)) k sender receiver 1) ⌝ }
+{
+    if pairs.len() <= k {
+        return 1;
+    }
+    if Limits::UNITS <= sender {
+        return 1;
+    }
+    if Limits::UNITS <= receiver {
+        return 1;
+    }
+    let row = raised(pairs[k], sender, receiver);
+    pairs[k][sender] = row;
+    row[receiver]
 }
 
 // The counts of a sender in array k.
@@ -131,35 +134,4 @@ pub fn row(
         return [0u16; Limits::UNITS];
     }
     pairs[k][sender]
-}
-
-// Other counts of a sender in array k.
-pub fn set_row(
-    pairs: &mut [[[u16; Limits::UNITS]; Limits::UNITS]],
-    k: usize,
-    sender: usize,
-    row: [u16; Limits::UNITS],
-)
-    ensures { λ _. ⌜ now (pairs .exit) ≡ withRowIn (now (pairs .entry)) k sender row ⌝ }
-{
-    if pairs.len() <= k {
-        return;
-    }
-    if Limits::UNITS <= sender {
-        return;
-    }
-    pairs[k][sender] = row;
-}
-
-// Array k is replaced.
-pub fn set_grid(
-    pairs: &mut [[[u16; Limits::UNITS]; Limits::UNITS]],
-    k: usize,
-    grid: [[u16; Limits::UNITS]; Limits::UNITS],
-)
-    ensures { λ _. ⌜ now (pairs .exit) ≡ set (now (pairs .entry)) k grid ⌝ }
-{
-    if k < pairs.len() {
-        pairs[k] = grid;
-    }
 }

@@ -1,5 +1,5 @@
 -- What the functions of the crate answer. Definitions only.
-use Prim.Native.Nat.{ℕ, _+_, _-_, _*_, _/_, _%_}
+use Prim.Native.Nat.{ℕ, _+_, _*_, _/_, _%_}
 use mathlib.Core.Bool.{Bool, cond}
 use mathlib.Core.List.{List, [], _∷_, _++_}
 use lib.Dec.{eqb, ltb}
@@ -8,7 +8,6 @@ use Rattle.sets.specs.Sets.{includingIf, collect}
 use Rattle.layout.specs.Tables.{tabulate}
 use Rattle.forest.specs.Forest.{parent, primary, route}
 use Rattle.bench_store.specs.Values.{columnAt}
-use Rattle.forest_tables.specs.declared.Topology.{Topology}
 
 unfoldable pub isChild : List ℕ → ℕ → ℕ → Bool
 isChild ps u c = eqb (parent ps c) u
@@ -53,28 +52,14 @@ groupCount ts = columnAt ts 136 4 2 + 4294967296 * columnAt ts 136 4 3
 
 -- ---- how it is made
 
-unfoldable pub topology : (units count : ℕ) (groups parents : List ℕ) → Topology
-topology n c gs ps = record {
-  units = n;
-  count = c;
-  groups = gs;
-  routes = tabulate 24 (λ g. route ps (getD gs g 0));
-  primaries = tabulate 24 (λ g. primary ps (getD gs g 0));
-  children = tabulate 32 (childrenOf ps);
-  parents = ps;
-}
-
--- number i of the list
-unfoldable pub groupEntry : Topology → ℕ → ℕ
-groupEntry T i =
-    cond (ltb i 24) (getD (T .groups) i 0)
-    (cond (ltb i 48) (getD (T .routes) (i - 24) 0) (cond (ltb i 72) (getD (T .primaries) (i - 48) 0) 0))
-
-unfoldable pub tableEntry : Topology → ℕ → ℕ
-tableEntry T i =
-    cond (ltb i 72) (groupEntry T i)
-    (cond (ltb i 104) (getD (T .children) (i - 72) 0)
-    (cond (ltb i 136) (getD (T .parents) (i - 104) 0)
-    (cond (eqb i 136) (T .units % 4294967296)
-    (cond (eqb i 137) (T .units / 4294967296)
-    (cond (eqb i 138) (T .count % 4294967296) (T .count / 4294967296))))))
+-- number i of the list, of the group and the unit whose place in their columns it has
+unfoldable pub entryOf : (i group route primary children parent units count : ℕ) → ℕ
+entryOf i group route primary children parent n c =
+    cond (ltb i 24) group
+    (cond (ltb i 48) route
+    (cond (ltb i 72) primary
+    (cond (ltb i 104) children
+    (cond (ltb i 136) parent
+    (cond (eqb i 136) (n % 4294967296)
+    (cond (eqb i 137) (n / 4294967296)
+    (cond (eqb i 138) (c % 4294967296) (c / 4294967296))))))))

@@ -4,10 +4,10 @@ use bench_store::Limits;
 use bench_store::columns;
 ghost use mathlib.Core.Path.{_≡_};
 ghost use Prim.Native.Nat.{_+_, _*_, _%_, _/_};
-ghost use lib.ListN.{length, getD};
+ghost use lib.ListN.{length};
 ghost use Rattle.sets.specs.Sets.{size as sizeOf};
 ghost use Rattle.layout.specs.Tables.{tabulate};
-ghost use Rattle.forest_tables.specs.Computed.{withChild, childrenOf, topology, groupEntry, tableEntry, tablesOf};
+ghost use Rattle.forest_tables.specs.Computed.{withChild, childrenOf, entryOf, tablesOf};
 ghost use Rattle.forest_tables.specs.Computed.{groupIn, routeIn, primaryIn, childrenIn, unitCount, groupCount};
 
 // Where the columns begin.
@@ -28,17 +28,6 @@ impl Tables {
     pub const NUMBERS: usize = Tables::PARENTS + Limits::UNITS;
 
     pub const SIZE: usize = Tables::NUMBERS + 4;
-}
-
-// What the columns are made of.
-struct Topology {
-    units: usize,
-    count: usize,
-    groups: [u32; Limits::GROUPS],
-    routes: [u32; Limits::GROUPS],
-    primaries: [u8; Limits::GROUPS],
-    children: [u32; Limits::UNITS],
-    parents: [u8; Limits::UNITS],
 }
 
 // Adds c to the children of u, if u is a unit.
@@ -65,29 +54,6 @@ fn children_of(parents: [u8; Limits::UNITS]) -> [u32; Limits::UNITS]
     table
 }
 
-fn topology_of(
-    units: usize,
-    groups: [u32; Limits::GROUPS],
-    count: usize,
-    parents: [u8; Limits::UNITS],
-) -> Topology
-    ensures { λ r. ⌜ r ≡ topology units count groups parents ⌝ }
-{
-    let children = children_of(parents);
-    let table = forest::routes::route_table(parents, groups);
-    let routes = table.routes;
-    let primaries = table.primaries;
-    Topology {
-        units,
-        count,
-        groups,
-        routes,
-        primaries,
-        children,
-        parents,
-    }
-}
-
 // The lower and the upper 32 bits of a number.
 fn lower(n: usize) -> u32
     ensures { λ r. ⌜ r ≡ n % 4294967296 ⌝ }
@@ -108,52 +74,48 @@ fn joined(low: u32, high: u32) -> usize
     low as usize + high as usize * 4294967296
 }
 
-// Number i of the list, among those of the columns of groups.
-fn group_entry(t: Topology, i: usize) -> u32
-    ensures { λ r. ⌜ r ≡ groupEntry t i ⌝ }
+// Number i of the list: of its group, of its unit, or one of the last four.
+fn entry(
+    i: usize,
+    group: u32,
+    route: u32,
+    primary: u8,
+    children: u32,
+    parent: u8,
+    units: usize,
+    count: usize,
+) -> u32
+    ensures { λ r. ⌜ r ≡ entryOf i group route primary children parent units count ⌝ }
 {
     if i < Tables::ROUTES {
-        return t.groups[i];
+        return group;
     }
     if i < Tables::PRIMARIES {
-        let g = i - Tables::ROUTES;
-        return t.routes[g];
+        return route;
     }
     if i < Tables::CHILDREN {
-        let g = i - Tables::PRIMARIES;
-        return t.primaries[g] as u32;
-    }
-    0
-}
-
-// Number i of the list.
-fn entry(t: Topology, i: usize) -> u32
-    ensures { λ r. ⌜ r ≡ tableEntry t i ⌝ }
-{
-    if i < Tables::CHILDREN {
-        return group_entry(t, i);
+        return primary as u32;
     }
     if i < Tables::PARENTS {
-        let u = i - Tables::CHILDREN;
-        return t.children[u];
+        return children;
     }
     if i < Tables::NUMBERS {
-        let u = i - Tables::PARENTS;
-        return t.parents[u] as u32;
+        return parent as u32;
     }
     if i == Tables::NUMBERS {
-        return lower(t.units);
+        return lower(units);
     }
     if i == Tables::NUMBERS + 1 {
-        return upper(t.units);
+        return upper(units);
     }
     if i == Tables::NUMBERS + 2 {
-        return lower(t.count);
+        return lower(count);
     }
-    upper(t.count)
+    upper(count)
 }
 
-// The list of units, groups and parents.
+// The list of units, groups and parents. Number i stands in its column at place i by 24 of the groups, at place i + 24 by 32 of the units:
+// so the columns begin.
 pub fn of(
     units: usize,
     groups: [u32; Limits::GROUPS],
@@ -162,11 +124,25 @@ pub fn of(
 ) -> [u32; Tables::SIZE]
     ensures { λ r. ⌜ r ≡ tablesOf units count groups parents ⌝ }
 {
-    let topology = topology_of(units, groups, count, parents);
+    let children = children_of(parents);
+    let found = forest::routes::route_table(parents, groups);
+    let routes = found.routes;
+    let primaries = found.primaries;
     let mut table = [0u32; Tables::SIZE];
     let mut i = 0;
     while i < Tables::SIZE {
-        table[i] = entry(topology, i);
+        let g = i % Limits::GROUPS;
+        let u = (i + Limits::GROUPS) % Limits::UNITS;
+        table[i] = entry(
+            i,
+            groups[g],
+            routes[g],
+            primaries[g],
+            children[u],
+            parents[u],
+            units,
+            count,
+        );
         i += 1;
     }
     table

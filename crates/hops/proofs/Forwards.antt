@@ -1,5 +1,7 @@
--- Laws of `forwarded` and `forwardedHops` as the loop uses them. What is left (f, with the list zs) leads to the same end as the start, within k more hops, where k is at least
--- the number of children left. A hop to the lowest child leaves fewer children and takes one from k; where no child is left, the end is reached for every k.
+-- Laws of `forwarded` and `forwardedHops` as the loop uses them. What is left (f, with the list zs) leads to the same end as the start,
+-- within k more hops, where k is at least
+-- the number of children left. A hop to the lowest child leaves fewer children and takes one from k; where no child is left, the end is
+-- reached for every k.
 use mathlib.Core.Path.{_≡_, refl, sym, ap, _∙_, subst}
 use mathlib.Core.Bool.{not}
 use mathlib.Core.List.{List, []}
@@ -13,7 +15,7 @@ use Rattle.sets.proofs.Bools.{cond-true, cond-false}
 use Rattle.sets.proofs.Laws.{lowest-of-some, size-excluding, size-below}
 use Rattle.model.specs.declared.Hop.{Hop}
 use Rattle.hops.specs.declared.forwarding.Outgoing.{Outgoing}
-use Rattle.hops.specs.Access.{Forwarding, withCounts, withoutCounts, isLeft, nextHop, afterNext, forwarded, forwardedHops}
+use Rattle.hops.specs.Access.{Forwarding, withPairs, withoutPairs, isLeft, nextHop, afterNext, forwarded, forwardedHops}
 use Rattle.hops.proofs.Places.{came-true, came-false}
 
 pub record Reaches (start : Forwarding) (hs : List Hop) (k : ℕ) (f : Forwarding) (zs : List Hop) : Type 0 where
@@ -32,13 +34,15 @@ some-left f left none = subst (λ (n : ℕ). T (not (eqb n 0))) none left
 
 pub fewer : (f : Forwarding) → f .children < 2 ^ 32 → T (isLeft f) → size (afterNext f .children) < size (f .children)
 unfolding afterNext
-fewer f fits left = let m = lowest-of-some (f .children) fits (some-left f left) in size-excluding (f .children) (lowest (f .children)) (m .0) (m .1)
+fewer f fits left = let m = lowest-of-some (f .children) fits (some-left f left) in size-excluding (f .children) (lowest (f .children))
+    (m .0) (m .1)
 
 module _ {start : Forwarding} {hs : List Hop} where
   pub turned : (k : ℕ) (f : Forwarding) (zs : List Hop) → f .children < 2 ^ 32 → T (isLeft f) → Reaches start hs k f zs
       → (j : ℕ) × Reaches start hs j (afterNext f) (set zs (f .made) (nextHop f))
   unfolding forwarded forwardedHops
-  turned zero f zs fits left r = let less = fewer f fits left in let none : 1 ≤ 0 = omega (arith, less, r .enough) in absurd (not-suc-le-zero none)
+  turned zero f zs fits left r =
+      let less = fewer f fits left in let none : 1 ≤ 0 = omega (arith, less, r .enough) in absurd (not-suc-le-zero none)
   turned (suc k) f zs fits left r =
       let less = fewer f fits left in
       let goes = came-true (isLeft f) left in (
@@ -51,7 +55,8 @@ module _ {start : Forwarding} {hs : List Hop} where
         },
       )
 
-  pub over : (k : ℕ) (f : Forwarding) (zs : List Hop) → T (not (isLeft f)) → Reaches start hs k f zs → (f ≡ forwarded 32 start) × (zs ≡ forwardedHops 32 start hs)
+  pub over : (k : ℕ) (f : Forwarding) (zs : List Hop) → T (not (isLeft f)) → Reaches start hs k f zs
+      → (f ≡ forwarded 32 start) × (zs ≡ forwardedHops 32 start hs)
   unfolding forwarded forwardedHops
   over zero f zs none r = (r .same, r .same-hops)
   over (suc k) f zs none r =
@@ -62,18 +67,22 @@ module _ {start : Forwarding} {hs : List Hop} where
 
 -- the same where the counts are lent beside the rest
 module _ {start : Forwarding} {hs : List Hop} where
-  pub lent-turned : (k : ℕ) (o : Outgoing) (cs : List ℕ) (zs : List Hop) → o .children < 2 ^ 32 → T (isLeft (withCounts [] o)) → Reaches start hs k (withCounts cs o) zs
-      → (j : ℕ) × Reaches start hs j (withCounts (afterNext (withCounts cs o) .counts) (withoutCounts (afterNext (withCounts [] o)))) (set zs (o .made) (nextHop (withCounts cs o)))
-  unfolding withCounts withoutCounts isLeft afterNext
-  lent-turned k o cs zs fits left r = turned k (withCounts cs o) zs fits left r
+  pub lent-turned : (k : ℕ) (o : Outgoing) (cs : List (List (List ℕ))) (zs : List Hop) → o .children < 2 ^ 32
+      → T (isLeft (withPairs [] o)) → Reaches start hs k (withPairs cs o) zs
+      → (j : ℕ) × Reaches start hs j (withPairs (afterNext (withPairs cs o) .pairs) (withoutPairs (afterNext (withPairs [] o)))) (set zs
+      (o .made) (nextHop (withPairs cs o)))
+  unfolding withPairs withoutPairs isLeft afterNext
+  lent-turned k o cs zs fits left r = turned k (withPairs cs o) zs fits left r
 
-  pub lent-over : (k : ℕ) (o : Outgoing) (cs : List ℕ) (zs : List Hop) → T (not (isLeft (withCounts [] o))) → Reaches start hs k (withCounts cs o) zs
-      → (o .made ≡ forwarded 32 start .made) × (zs ≡ forwardedHops 32 start hs) × (cs ≡ forwarded 32 start .counts)
-  unfolding withCounts isLeft
+  pub lent-over : (k : ℕ) (o : Outgoing) (cs : List (List (List ℕ))) (zs : List Hop) → T (not (isLeft (withPairs [] o)))
+      → Reaches start hs k (withPairs cs o) zs
+      → (o .made ≡ forwarded 32 start .made) × (zs ≡ forwardedHops 32 start hs) × (cs ≡ forwarded 32 start .pairs)
+  unfolding withPairs isLeft
   lent-over k o cs zs none r =
-      let e = over k (withCounts cs o) zs none r in
-      (ap (λ (f : Forwarding). f .made) (e .0), e .1, ap (λ (f : Forwarding). f .counts) (e .0))
+      let e = over k (withPairs cs o) zs none r in
+      (ap (λ (f : Forwarding). f .made) (e .0), e .1, ap (λ (f : Forwarding). f .pairs) (e .0))
 
-pub lent-fewer : (o : Outgoing) → o .children < 2 ^ 32 → T (isLeft (withCounts [] o)) → size (withoutCounts (afterNext (withCounts [] o)) .children) < size (o .children)
-unfolding withCounts withoutCounts
-lent-fewer o fits left = fewer (withCounts [] o) fits left
+pub lent-fewer : (o : Outgoing) → o .children < 2 ^ 32 → T (isLeft (withPairs [] o))
+    → size (withoutPairs (afterNext (withPairs [] o)) .children) < size (o .children)
+unfolding withPairs withoutPairs
+lent-fewer o fits left = fewer (withPairs [] o) fits left

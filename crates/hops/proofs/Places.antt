@@ -29,9 +29,14 @@ next-over hs s r end at over = let none : end - at ≡ 0 = omega (arith, over) i
 
 pub next-here : (hs : List Hop) (s r end at : ℕ) → at < end → T (isPair s r (hopAt hs at)) → at ≡ nextFrom hs s r end at
 unfolding nextOfPair
-next-here hs s r end at less pair = let one : end - at ≡ suc (end - (at + 1)) = omega (arith, less) in rw (one, came-true (isPair s r (hopAt hs at)) pair)
+next-here hs s r end at less pair = let one : end - at ≡ suc (end - (at + 1)) = omega (arith, less) in rw (
+  one,
+  came-true (isPair s r
+      (hopAt hs at)) pair,
+)
 
-pub next-later : (hs : List Hop) (s r end at : ℕ) → at < end → T (not (isPair s r (hopAt hs at))) → nextFrom hs s r end (at + 1) ≡ nextFrom hs s r end at
+pub next-later : (hs : List Hop) (s r end at : ℕ) → at < end → T (not (isPair s r (hopAt hs at)))
+    → nextFrom hs s r end (at + 1) ≡ nextFrom hs s r end at
 unfolding nextOfPair
 next-later hs s r end at less other =
     let one : end - at ≡ suc (end - (at + 1)) = omega (arith, less) in

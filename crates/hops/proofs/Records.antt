@@ -1,4 +1,5 @@
--- The laws of the record `Hop` that the walks over a lent slice of hops share: its machine value, and the steps that take one hop out of the slice's row and put one back.
+-- The laws of the record `Hop` that the walks over a lent slice of hops share: its machine value, and the steps that take one hop out of
+-- the slice's row and put one back.
 --     R, low, Low, by-hop      the record's type, its machine value, the relation of a record to that value, and the three as plain data
 --     zeros-low, state-low     the record of zeros has a machine value, and so has a record with another state
 --     typed                    the machine value is of the record's MIR type
@@ -63,7 +64,19 @@ unfolding withState
 state-low k h fits is = let s = sizes h is in made (withState k h) (s .0, s .1, s .2, s .3, fits)
 
 pub typed : (h : Hop) → Low h → True (hasTy T′.mir (low h)) × WT (low h)
-typed h is = let s = sizes h is in (tt, (record { fits = s .0 }, (record { fits = s .1 }, (record { fits = s .2 }, (record { fits = s .3 }, (record { fits = s .4 }, tt))))))
+typed h is = let s = sizes h is in (
+  tt,
+  (
+    record { fits = s .0 },
+    (
+      record { fits = s .1 },
+      (
+        record { fits = s .2 },
+        (record { fits = s .3 }, (record { fits = s .4 }, tt)),
+      ),
+    ),
+  ),
+)
 
 pub hop-past : (hs : List Hop) (j : ℕ) → length hs ≤ j → noHop ≡ hopAt hs j
 unfolding hopAt
@@ -74,17 +87,21 @@ place-fits n j room within = omega (arith, within, room .1)
 
 module _ {M : Type 1} {𝓤 : URA M} {H : Heap 𝓤} {A : Atoms 𝓤} {K : Type 0} {W : Given 𝓤 H A} {Γ : List (Item 𝓤)} {G : Goal 𝓤 H} where
   pub out : K → (q : Share) (hs : List Hop) (i : ℕ) (b o : ℕ) → i < length hs
-      → (Low (getD hs i noHop) → Seq K W (‵ (fat q (rawTy T′.mir) b (place 8 o i) (low (getD hs i noHop))) ∷ ‵ (R .own (getD hs i noHop) (low (getD hs i noHop) ∷ []))
+      → (Low (getD hs i noHop) → Seq K W (‵ (fat q (rawTy T′.mir) b (place 8 o i) (low (getD hs i noHop)))
+      ∷ ‵ (R .own (getD hs i noHop) (low (getD hs i noHop) ∷ []))
       ∷ ‵ (others (shares R) q hs i b o) ∷ Γ) G)
       → Seq K W (‵ (row R q hs b o) ∷ Γ) G
   out t q hs i b o l k = elem-out t R (Is R) (shows 𝓤 H A R) (λ h. low h ∷ []) (by-hop .told) q hs i noHop b o l k
 
   pub back-in : K → (q : Share) (hs : List Hop) (i : ℕ) (b o : ℕ) → i < length hs
       → Step K W (‵ (row R q hs b o) ∷ Γ) G
-      (‵ (fat q (rawTy T′.mir) b (place 8 o i) (low (getD hs i noHop))) ∷ ‵ (R .own (getD hs i noHop) (low (getD hs i noHop) ∷ [])) ∷ ‵ (others (shares R) q hs i b o) ∷ Γ) G
+      (‵ (fat q (rawTy T′.mir) b (place 8 o i) (low (getD hs i noHop))) ∷ ‵ (R .own (getD hs i noHop) (low (getD hs i noHop) ∷ []))
+      ∷ ‵ (others (shares R) q hs i b o) ∷ Γ) G
   back-in t q hs i b o l = elem-back t R q hs i noHop (low (getD hs i noHop) ∷ []) b o l
 
   pub put-in : K → (hs : List Hop) (i : ℕ) (h : Hop) (b o : ℕ) → i < length hs → Low h
-      → Step K W (‵ (row R fullShare (set hs i h) b o) ∷ Γ) G (‵ (fat fullShare (rawTy T′.mir) b (place 8 o i) (low h)) ∷ ‵ (others (shares R) fullShare hs i b o) ∷ Γ) G
+      → Step K W (‵ (row R fullShare (set hs i h) b o) ∷ Γ) G (‵ (fat fullShare (rawTy T′.mir) b (place 8 o i) (low h))
+      ∷ ‵ (others (shares R) fullShare hs i b o) ∷ Γ) G
   put-in t hs i h b o l is = step (λ s.
-      owned t R (Is R) (by-hop .makes 𝓤 H A W) h (low h ∷ []) is $ move t (1 ∷ 0 ∷ 2 ∷ []) $ elem-put t R fullShare hs i h (low h ∷ []) b o l $ s)
+      owned t R (Is R) (by-hop .makes 𝓤 H A W) h (low h ∷ []) is $ move t (1 ∷ 0 ∷ 2 ∷ []) $
+      elem-put t R fullShare hs i h (low h ∷ []) b o l $ s)

@@ -3,9 +3,9 @@ use Prim.Native.Nat.{ℕ, zero, suc}
 use mathlib.Core.Bool.{Bool, not, cond}
 use mathlib.Core.List.{List}
 use lib.Dec.{eqb}
-use lib.ListN.{getD, set}
+use lib.ListN.{set}
 use Rattle.sets.specs.Sets.{lowest, excluding}
-use Rattle.bench_store.specs.Values.{plus, added}
+use Rattle.bench_store.specs.Values.{plus, countIn, addedIn}
 use Rattle.model.specs.declared.Hop.{Hop}
 use Rattle.model.specs.Network.{hopAt, isPair}
 use Rattle.hops.specs.declared.forwarding.Outgoing.{Outgoing}
@@ -17,20 +17,21 @@ nextOfPair (suc k) s r i hs = let rest = nextOfPair k s r (suc i) hs in cond (is
 
 -- ---- passing a message on
 
--- the hops that one copy taken makes: to `children`, those that have none yet; `made` hops were made in all, and `counts` from the sender to each unit
+-- the hops that one copy taken makes: to `children`, those that have none yet; `made` hops were made in all, and `pairs` counts those of
+-- each pair
 pub record Forwarding : Type 0 where
   pub sender : ℕ
   pub message : ℕ
   pub children : ℕ
   pub made : ℕ
-  pub counts : List ℕ
+  pub pairs : List (List (List ℕ))
 
 -- the counts are lent beside the rest
-unfoldable pub withCounts : List ℕ → Outgoing → Forwarding
-withCounts counts o = record { sender = o .sender; message = o .message; children = o .children; made = o .made; counts = counts }
+unfoldable pub withPairs : List (List (List ℕ)) → Outgoing → Forwarding
+withPairs pairs o = record { sender = o .sender; message = o .message; children = o .children; made = o .made; pairs = pairs }
 
-unfoldable pub withoutCounts : Forwarding → Outgoing
-withoutCounts f = record { sender = f .sender; message = f .message; children = f .children; made = f .made }
+unfoldable pub withoutPairs : Forwarding → Outgoing
+withoutPairs f = record { sender = f .sender; message = f .message; children = f .children; made = f .made }
 
 -- a child is left
 unfoldable pub isLeft : Forwarding → Bool
@@ -40,7 +41,14 @@ isLeft f = not (eqb (f .children) 0)
 unfoldable pub nextHop : Forwarding → Hop
 nextHop f =
     let child = lowest (f .children) in
-    record { sender = f .sender; receiver = child; sequence = plus (getD (f .counts) child 0) 1; message = f .message; state = 0 }
+    record {
+      sender = f .sender;
+      receiver = child;
+      sequence = plus (countIn (f .pairs) 0
+          (f .sender) child) 1;
+      message = f .message;
+      state = 0;
+    }
 
 -- what is left once that hop was made
 unfoldable pub afterNext : Forwarding → Forwarding
@@ -51,7 +59,7 @@ afterNext f =
       message = f .message;
       children = excluding (f .children) child;
       made = plus (f .made) 1;
-      counts = added (f .counts) child 1;
+      pairs = addedIn (f .pairs) 0 (f .sender) child 1;
     }
 
 -- at most k hops made, and the list with them

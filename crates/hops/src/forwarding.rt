@@ -1,10 +1,11 @@
 // Passing a message on: a hop to each child, in rising unit number.
+use bench_store::Limits;
+use bench_store::counts;
+use bench_store::counts::PairCounts;
 ghost use mathlib.Core.Path.{_≡_};
 ghost use mathlib.Core.List.{[]};
-ghost use lib.ListN.{getD};
 ghost use Rattle.sets.specs.Sets.{lowest};
-ghost use Rattle.bench_store.specs.Values.{plus as plusOf, added as addedOf};
-ghost use Rattle.hops.specs.Access.{withCounts, withoutCounts, isLeft, nextHop, afterNext};
+ghost use Rattle.hops.specs.Access.{withPairs, withoutPairs, isLeft, nextHop, afterNext};
 
 // The hops that one copy taken makes.
 pub struct Outgoing {
@@ -18,7 +19,7 @@ pub struct Outgoing {
 
 // Whether a child is left.
 pub fn is_left(o: Outgoing) -> bool
-    ensures { λ r. ⌜ r ≡ isLeft (withCounts [] o) ⌝ }
+    ensures { λ r. ⌜ r ≡ isLeft (withPairs [] o) ⌝ }
 {
     o.children != 0
 }
@@ -37,18 +38,6 @@ pub fn place(o: Outgoing) -> usize
     o.made as usize
 }
 
-// One more is counted at a unit: its new count.
-fn count_at(counts: &mut [u16], unit: usize) -> u16
-    ensures { λ r. ⌜ (r ≡ plusOf (getD (now (counts .entry)) unit 0) 1) × (now (counts .exit) ≡ addedOf (now (counts .entry)) unit 1) ⌝ }
-{
-    if unit < counts.len() {
-        let count = bench_store::plus(counts[unit], 1);
-        counts[unit] = count;
-        return count;
-    }
-    1
-}
-
 // The child that is next: the lowest.
 fn next_child(o: Outgoing) -> usize
     ensures { λ r. ⌜ r ≡ lowest (o .children) ⌝ }
@@ -57,11 +46,12 @@ fn next_child(o: Outgoing) -> usize
 }
 
 // The hop to the next child; it is counted.
-pub fn next_hop(o: Outgoing, counts: &mut [u16]) -> model::Hop
-    ensures { λ r. ⌜ (r ≡ nextHop (withCounts (now (counts .entry)) o)) × (now (counts .exit) ≡ afterNext (withCounts (now (counts .entry)) o) .counts) ⌝ }
+pub fn next_hop(o: Outgoing, pairs: &mut [[[u16; Limits::UNITS]; Limits::UNITS]]) -> model::Hop
+    ensures { λ r. ⌜ (r ≡ nextHop (withPairs (now (pairs .entry)) o))
+        × (now (pairs .exit) ≡ afterNext (withPairs (now (pairs .entry)) o) .pairs) ⌝ }
 {
     let child = next_child(o);
-    let sequence = count_at(counts, child);
+    let sequence = counts::add(pairs, PairCounts::MADE, o.sender as usize, child, 1);
     model::Hop {
         sender: o.sender,
         receiver: child as u8,
@@ -73,7 +63,7 @@ pub fn next_hop(o: Outgoing, counts: &mut [u16]) -> model::Hop
 
 // What is left once that hop was made.
 pub fn after(o: Outgoing) -> Outgoing
-    ensures { λ r. ⌜ r ≡ withoutCounts (afterNext (withCounts [] o)) ⌝ }
+    ensures { λ r. ⌜ r ≡ withoutPairs (afterNext (withPairs [] o)) ⌝ }
 {
     let child = next_child(o);
     let children = sets::excluding(o.children, child);

@@ -1,15 +1,17 @@
-// The hops of a bench: a list of records lent by the caller. Every access to a record goes through `read`, `message_at`, `set_state`,
+// The hops of a bench: a list of records lent by the caller. Every access to a record goes through `read`, `message_at`, `state_at`,
+// `set_state`,
 // `append` and `clear`. Every function is total: a place past the list reads as zeros, and nothing is stored there.
 
 mod forwarding;
 
+use bench_store::Limits;
 pub use forwarding::Outgoing;
 ghost use mathlib.Core.Path.{_≡_};
 ghost use Prim.Native.Nat.{_-_};
 ghost use lib.ListN.{set};
 ghost use Rattle.model.specs.Network.{hopAt, setState, isPair, noHop as zeros};
 ghost use Rattle.bench_store.specs.Values.{filled};
-ghost use Rattle.hops.specs.Access.{nextOfPair, withCounts, forwarded, forwardedHops};
+ghost use Rattle.hops.specs.Access.{nextOfPair, withPairs, forwarded, forwardedHops};
 
 // The record at a place.
 pub fn read(hops: &[model::Hop], at: usize) -> model::Hop
@@ -27,6 +29,16 @@ pub fn message_at(hops: &[model::Hop], at: usize) -> u16
 {
     if at < hops.len() {
         return hops[at].message;
+    }
+    0
+}
+
+// The state of the record at a place, alone, for the same reason.
+pub fn state_at(hops: &[model::Hop], at: usize) -> u8
+    ensures { λ r. ⌜ r ≡ hopAt (now (hops .entry)) at .state ⌝ }
+{
+    if at < hops.len() {
+        return hops[at].state;
     }
     0
 }
@@ -61,7 +73,8 @@ pub fn clear(hops: &mut [model::Hop], count: usize)
     }
 }
 
-// The first place from `from` on, and before `end`, of a hop from a sender to a receiver; where there is none, `end`, or `from` if that is past it.
+// The first place from `from` on, and before `end`, of a hop from a sender to a receiver; where there is none, `end`, or `from` if that is
+// past it.
 pub fn next_of_pair(hops: &[model::Hop], sender: u8, receiver: u8, from: usize, end: usize) -> usize
     ensures { λ r. ⌜ r ≡ nextOfPair (end - from) sender receiver from (now (hops .entry)) ⌝ }
 {
@@ -77,14 +90,18 @@ pub fn next_of_pair(hops: &[model::Hop], sender: u8, receiver: u8, from: usize, 
 }
 
 // A hop to each child of `start` that has none yet, in rising unit number; each is counted. Answers how many hops are made then.
-pub fn forward(hops: &mut [model::Hop], counts: &mut [u16], start: Outgoing) -> u16
-    ensures { λ r. ⌜ (r ≡ forwarded 32 (withCounts (now (counts .entry)) start) .made)
-        × (now (hops .exit) ≡ forwardedHops 32 (withCounts (now (counts .entry)) start) (now (hops .entry)))
-        × (now (counts .exit) ≡ forwarded 32 (withCounts (now (counts .entry)) start) .counts) ⌝ }
+pub fn forward(
+    hops: &mut [model::Hop],
+    pairs: &mut [[[u16; Limits::UNITS]; Limits::UNITS]],
+    start: Outgoing,
+) -> u16
+    ensures { λ r. ⌜ (r ≡ forwarded 32 (withPairs (now (pairs .entry)) start) .made)
+        × (now (hops .exit) ≡ forwardedHops 32 (withPairs (now (pairs .entry)) start) (now (hops .entry)))
+        × (now (pairs .exit) ≡ forwarded 32 (withPairs (now (pairs .entry)) start) .pairs) ⌝ }
 {
     let mut o = start;
     while forwarding::is_left(o) {
-        let hop = forwarding::next_hop(o, counts);
+        let hop = forwarding::next_hop(o, pairs);
         let at = forwarding::place(o);
         append(hops, at, hop);
         o = forwarding::after(o);

@@ -318,10 +318,6 @@ forward-count-apart a b v m cs hs apart = omega (
   sum-none (λ c. bit (eqb v a && eqb c b)) cs (λ c i. ap bit (new-pair a b v c m [] (apart c i))),
 )
 
-pub forward-count-sender : (a b v m : ℕ) (cs : List ℕ) (hs : List Hop) → (a ≡ v → ⊥) → pairCount a b (forward v m cs hs) ≡ pairCount a b hs
-unfolding Apart
-forward-count-sender a b v m cs hs other = forward-count-apart a b v m cs hs (λ c i e f. other e)
-
 pub forward-count-receiver : (b v m : ℕ) (cs : List ℕ) (hs : List Hop) → (In b cs → ⊥) → pairCount v b (forward v m cs hs) ≡ pairCount v b hs
 unfolding Apart
 forward-count-receiver b v m cs hs none =

@@ -1,6 +1,7 @@
 // What is printed once the events were run: the logs, the hops, the rest.
 use crate::events::Progress;
 use bench_promises::RestReply;
+use bench_store::Limits;
 ghost use mathlib.Core.Path.{_≡_};
 ghost use mathlib.Core.List.{List};
 ghost use Prim.Native.Nat.{ℕ};
@@ -41,7 +42,7 @@ fn put_logs(tables: &[u32], gauges: &[u16], book: &[u16], out: &mut [u8], at: us
     let units = forest_tables::unit_count(tables);
     let mut next = at;
     let mut u: u16 = 0;
-    while u < 32 {
+    while u < Limits::UNITS as u16 {
         if units <= u as usize {
             return next;
         }

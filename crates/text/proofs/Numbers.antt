@@ -99,6 +99,11 @@ pub decimal-tenth : (n : ℕ) → 10 ≤ n → n < 65536 → decimal n ≡ decim
 unfolding decimal
 decimal-tenth n h b = within-more 4 n h ∙ ap (λ (s : List ℕ). s ++ (48 + n % 10) ∷ []) (within-enough 3 (n / 10) (omega arith))
 
+-- a number from ten to ninety-nine is two digits
+pub decimal-two : (n : ℕ) → 10 ≤ n → n < 100 → decimal n ≡ (48 + n / 10) ∷ (48 + n % 10) ∷ []
+decimal-two n l h =
+    decimal-tenth n l (omega arith) ∙ ap (λ (s : List ℕ). s ++ (48 + n % 10) ∷ []) (decimal-digit (n / 10) (omega arith))
+
 -- one digit more
 decimal-more : (n d : ℕ) → 1 ≤ n → d < 10 → n * 10 + d < 65536 → decimal (n * 10 + d) ≡ decimal n ++ (48 + d) ∷ []
 decimal-more n d l h f =

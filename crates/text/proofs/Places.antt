@@ -36,9 +36,12 @@ pub key-end : (key text : List ℕ) (at : ℕ) → length key ≤ at → startsW
 unfolding startsWith
 key-end key text at h = rw (drop-of-length-le key h)
 
-pub text-end : (key text : List ℕ) (at : ℕ) → at < length key → length text ≤ at → startsWith (drop at key) (drop at text) ≡ false
+-- a text shorter than the key
+pub text-short : (key text : List ℕ) → length text < length key → startsWith key text ≡ false
 unfolding startsWith
-text-end key text at h l = rw (drop-next key at h, drop-of-length-le text l)
+text-short [] text h = absurd (omega arith)
+text-short (k ∷ ks) [] h = refl
+text-short (k ∷ ks) (b ∷ bs) h = simp (text-short ks bs (omega arith), and-false)
 
 -- both have a byte at the place
 module _ (key text : List ℕ) (at : ℕ) (k : at < length key) (t : at < length text) where
@@ -46,7 +49,8 @@ module _ (key text : List ℕ) (at : ℕ) (k : at < length key) (t : at < length
   unfolding startsWith
   bytes-differ e = rw (drop-next key at k, drop-next text at t, ne-eqb (getD key at 0) (getD text at 0) (λ h. e (sym h)))
 
-  pub bytes-same : getD text at 0 ≡ getD key at 0 → startsWith (drop at key) (drop at text) ≡ startsWith (drop (at + 1) key) (drop (at + 1) text)
+  pub bytes-same : getD text at 0 ≡ getD key at 0
+      → startsWith (drop at key) (drop at text) ≡ startsWith (drop (at + 1) key) (drop (at + 1) text)
   unfolding startsWith
   bytes-same e = rw (drop-next key at k, drop-next text at t, eq-eqb (getD key at 0) (getD text at 0) (sym e))
 

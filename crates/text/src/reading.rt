@@ -21,11 +21,11 @@ pub fn find(text: &[u8], byte: u8) -> usize
 pub fn starts_with(text: &[u8], key: &[u8]) -> bool
     ensures { λ r. ⌜ r ≡ startsWith (now (key .entry)) (now (text .entry)) ⌝ }
 {
+    if text.len() < key.len() {
+        return false;
+    }
     let mut at = 0;
     while at < key.len() {
-        if text.len() <= at {
-            return false;
-        }
         if text[at] != key[at] {
             return false;
         }

@@ -34,6 +34,10 @@ pub fn put_number(out: &mut [u8], at: usize, n: u16) -> usize
     if n < 10 {
         return put(out, at, 48 + n as u8);
     }
+    if n < 100 {
+        let second = put(out, at, 48 + (n / 10) as u8);
+        return put(out, second, 48 + (n % 10) as u8);
+    }
     let next = put_number(out, at, n / 10);
     put(out, next, 48 + (n % 10) as u8)
 }

@@ -1,30 +1,70 @@
 -- The loop fills the list number by number.
 use borrow.Author.Needs.{needs}
-use mathlib.Core.Path.{_≡_, refl, ap, _∙_}
+use mathlib.Core.Path.{_≡_, refl, _∙_}
 use mathlib.Core.List.{List}
-use Prim.Native.Nat.{ℕ, _-_}
+use Prim.Native.Nat.{ℕ, _+_, _-_, _%_}
+use lib.ListN.{getD}
 use Rattle.layout.specs.Tables.{tabulate}
 use Rattle.layout.proofs.Loops.{Filled, filled-none, filled-turn, filled-all}
-use Rattle.forest_tables.specs.Computed.{tablesOf, topology, groupEntry, tableEntry}
+use Rattle.forest.specs.Forest.{primary, route}
+use Rattle.forest_tables.specs.Computed.{childrenOf, tablesOf, entryOf}
 use Rattle.forest_tables.proofs.of.Statement.{statement}
 use Rattle.forest_tables.proofs.of.Tie as tie
 
--- all its numbers are the columns
-made : (n c : ℕ) (gs ps : List ℕ) → tabulate 140 (tableEntry (topology n c gs ps)) ≡ tablesOf n c gs ps
-unfolding tabulate tableEntry groupEntry topology tablesOf
+-- number i, from the columns that it is made of
+abbrev entryAt : (n c : ℕ) (gs ps children routes primaries : List ℕ) → ℕ → ℕ
+entryAt n c gs ps children routes primaries i =
+    entryOf i (getD gs (i % 24) 0) (getD routes (i % 24) 0) (getD primaries (i % 24) 0) (getD children ((i + 24) % 32) 0)
+    (getD ps ((i + 24) % 32) 0) n c
+
+-- all the numbers are the columns
+made : (n c : ℕ) (gs ps : List ℕ) → tabulate 140 (entryAt n c gs ps (tabulate 32 (childrenOf ps))
+    (tabulate 24 (λ g. route ps (getD gs g 0))) (tabulate 24 (λ g. primary ps (getD gs g 0)))) ≡ tablesOf n c gs ps
+unfolding tabulate entryOf tablesOf
 made n c gs ps = refl
 
 abbrev Inv-loop : tie.InvT-loop
-Inv-loop units count topology table₀ i₀ table i = Filled 140 (tableEntry topology) table i
+Inv-loop units count groups parents children routes primaries table₀ i₀ table i =
+    Filled 140 (entryAt units count groups parents children routes primaries) table i
 
 abbrev μ-loop : tie.MeasureT-loop
-μ-loop units count topology table₀ i₀ table i = 140 - i
+μ-loop units count groups parents children routes primaries table₀ i₀ table i = 140 - i
 
-topology-of-requires : tie.Need-topology-of-requires Inv-loop μ-loop
-topology-of-requires c κs = search needs
+children-of-requires : tie.Need-children-of-requires Inv-loop μ-loop
+children-of-requires c κs = search needs
+
+route-table-requires : tie.Need-route-table-requires Inv-loop μ-loop
+route-table-requires c κs = search needs
 
 loop-holds : tie.Need-loop-holds Inv-loop μ-loop
 loop-holds c = filled-none refl
+
+add-u : tie.Need-add-u Inv-loop μ-loop
+add-u c = search needs
+
+mul-entry : tie.Need-mul-entry Inv-loop μ-loop
+mul-entry c = search needs
+
+array-read-entry : tie.Need-array-read-entry Inv-loop μ-loop
+array-read-entry c = search needs
+
+mul-entry-2 : tie.Need-mul-entry-2 Inv-loop μ-loop
+mul-entry-2 c = search needs
+
+array-read-entry-2 : tie.Need-array-read-entry-2 Inv-loop μ-loop
+array-read-entry-2 c = search needs
+
+array-read-entry-3 : tie.Need-array-read-entry-3 Inv-loop μ-loop
+array-read-entry-3 c = search needs
+
+mul-entry-3 : tie.Need-mul-entry-3 Inv-loop μ-loop
+mul-entry-3 c = search needs
+
+array-read-entry-4 : tie.Need-array-read-entry-4 Inv-loop μ-loop
+array-read-entry-4 c = search needs
+
+array-read-entry-5 : tie.Need-array-read-entry-5 Inv-loop μ-loop
+array-read-entry-5 c = search needs
 
 entry-requires : tie.Need-entry-requires Inv-loop μ-loop
 entry-requires c κs = search needs
@@ -46,11 +86,13 @@ loop-again c = filled-turn (c .before .before .loop .inv) (c .before .loop-test 
 
 returns : tie.Need-returns Inv-loop μ-loop
 returns c =
-    let topology = c .before .before in
-    let a = topology .before .args in
+    let found = c .before .before .before .before in
+    let a = found .before .before .args in
+    let n = a .units in let k = a .count in let gs = a .t2 in let ps = a .t4 in
     filled-all (c .before .loop .inv) (c .loop-test .left)
-    ∙ ap (λ t. tabulate 140 (tableEntry t)) (topology .topology-of .ensures)
-    ∙ made (a .units) (a .count) (a .groups) (a .parents)
+    ∙ (λ i. tabulate 140 (entryAt n k gs ps (found .before .children-of .ensures i) (found .route-table .ensures .1 i)
+    (found .route-table .ensures .0 i)))
+    ∙ made n k gs ps
 
 pub of-spec : {M : Type 1} → statement M
 of-spec =
@@ -58,8 +100,18 @@ of-spec =
     (tie.spec
     Inv-loop
     μ-loop
-    topology-of-requires
+    children-of-requires
+    route-table-requires
     loop-holds
+    add-u
+    mul-entry
+    array-read-entry
+    mul-entry-2
+    array-read-entry-2
+    array-read-entry-3
+    mul-entry-3
+    array-read-entry-4
+    array-read-entry-5
     entry-requires
     mul-table
     array-write-table

@@ -1,9 +1,14 @@
--- `next_of_pair` meets its contract: a walk of its MIR, by hand. Each turn reads the hop at the place and returns where it is of the pair; the answer from the place on is the
+-- `next_of_pair` meets its contract: a walk of its MIR, by hand. Each turn reads the hop at the place and returns where it is of the pair;
+-- the answer from the place on is the
 -- same at every turn.
-use Rattle.hand_proofs.proofs.Prelude.{_≡_, refl, _∙_, subst, [], _∷_, List, WellFounded, InvImage·wf, ℕ, _+_, _-_, _<_, _^_, arith, T, ltb→lt, nltb→le, Nat·lt-wfRel, URA, w8, w64, WT}
-use Rattle.hand_proofs.proofs.Prelude.{vint, emp, Heap, Env, Tables, afterTurn, Atoms, fmOf, factI, givenOf, tablesOf, Given, Item, Sq, runs, atRet, anyQ, ‵, _$_, !, check, done, look}
-use Rattle.hand_proofs.proofs.Prelude.{init, store, forget, hop, lit, of-opd, no-more, bin, first, blocks, exec, again, loops, returns, returns-within, Is, usize, Triple, cited, Loan}
-use Rattle.hand_proofs.proofs.Prelude.{slice, Views, Handed, Fit, contractOf, calls, Duty, Rooms, suited, Goes, starts, duty, Done-at, own-tables, proved-own, var, _&_, sets, sets-last}
+use Rattle.hand_proofs.proofs.Prelude.{_≡_, refl, _∙_, subst, [], _∷_, List, WellFounded, InvImage·wf, ℕ, _+_, _-_, _<_, _^_, arith, T}
+use Rattle.hand_proofs.proofs.Prelude.{ltb→lt, nltb→le, Nat·lt-wfRel, URA, w8, w64, WT}
+use Rattle.hand_proofs.proofs.Prelude.{vint, emp, Heap, Env, Tables, afterTurn, Atoms, fmOf, factI, givenOf, tablesOf, Given, Item, Sq}
+use Rattle.hand_proofs.proofs.Prelude.{runs, atRet, anyQ, ‵, _$_, !, check, done, look}
+use Rattle.hand_proofs.proofs.Prelude.{init, store, forget, hop, lit, of-opd, no-more, bin, first, blocks, exec, again, loops, returns}
+use Rattle.hand_proofs.proofs.Prelude.{returns-within, Is, usize, Triple, cited, Loan}
+use Rattle.hand_proofs.proofs.Prelude.{slice, Views, Handed, Fit, contractOf, calls, Duty, Rooms, suited, Goes, starts, duty, Done-at}
+use Rattle.hand_proofs.proofs.Prelude.{own-tables, proved-own, var, _&_, sets, sets-last}
 use Rattle.hand_proofs.proofs.Prelude.{into, empty, holds, full, envAt, stack, Blocks, leaves, if-then, while-test, Turned}
 use mathlib.Core.Bool.{not}
 use Rattle.model.specs.declared.Hop.{Hop}
@@ -42,9 +47,15 @@ module _ {M : Type 1} (𝓤 : URA M) (H : Heap 𝓤) (A : Atoms 𝓤) (W : Given
 
     -- the place after one that is not of the pair
     onward : (i : Search) → i .at < end → end < 2 ^ 64 → T (not (isPair s r (hopAt hs (i .at)))) → Search
-    onward i before end-fits other = record { at = i .at + 1; fits = omega (arith, before, end-fits); same = next-later hs s r end (i .at) before other ∙ i .same }
+    onward i before end-fits other = record {
+      at = i .at + 1;
+      fits = omega (arith, before, end-fits);
+      same = next-later hs s r end
+          (i .at) before other ∙ i .same;
+    }
 
-    module _ (fit : Fit (self .passes) h) (rooms : Rooms (self .passes) h) (𝓣 : Tables 𝓤 H) (of-read : Triple 𝓤 (𝓣 .C read-def.name) (contractOf (read-callee 𝓤 H A)))
+    module _ (fit : Fit (self .passes) h) (rooms : Rooms (self .passes) h) (𝓣 : Tables 𝓤 H) (of-read : Triple 𝓤 (𝓣 .C read-def.name)
+        (contractOf (read-callee 𝓤 H A)))
         (of-pair : Triple 𝓤 (𝓣 .C is-pair-def.name) (contractOf (is-pair-callee 𝓤 H A))) where
       module _ (bs : Blocks locals) where
         abbrev En : Env 𝓤 H
@@ -58,22 +69,28 @@ module _ {M : Type 1} (𝓤 : URA M) (H : Heap 𝓤) (A : Atoms 𝓤) (W : Given
         turns : (i : Search) → Sq W (At i) (runs (𝓣 .C) (𝓣 .Λ) En turn-1 (anyQ (Turned 𝓤 H A 𝓣 En t-3 (Done-at self h) Shorter At i)))
         unfolding afterTurn onward
         turns i =
-            let fm = fmOf 𝓤 H (W .laws) 𝓣 in let hop = hopAt hs (i .at) in let at-typed : WT (vint w64 (i .at)) = record { fits = i .fits } in
+            let fm = fmOf 𝓤 H (W .laws) 𝓣 in let hop = hopAt hs (i .at) in
+            let at-typed : WT (vint w64 (i .at)) = record { fits = i .fits } in
             sets ! (bin ! (var ! 7 refl) (var ! 9 refl) tt) (init ! 3 refl (tt, tt)) $ while-test ! (var ! 3 refl)
             (λ less. let before = ltb→lt (i .at) end less in
-            calls ! fm (read-callee 𝓤 H A) of-read ((L, hs), (i .at, tt)) ((refl, i .fits), tt) tt refl (var ! 17 refl & var ! 7 refl & no-more !) (λ is.
+            calls ! fm (read-callee 𝓤 H A) of-read ((L, hs), (i .at, tt)) ((refl, i .fits), tt) tt refl (var ! 17 refl & var ! 7 refl
+            & no-more !) (λ is.
             into ! (init ! 5 refl (typed hop is)) $
-            calls ! fm (is-pair-callee 𝓤 H A) of-pair (hop, (s, (r, tt))) (is, (fit .0, (fit .1 .0, tt))) tt refl (var ! 5 refl & var ! 15 refl & var ! 13 refl & no-more !) (λ _.
+            calls ! fm (is-pair-callee 𝓤 H A) of-pair (hop, (s, (r, tt))) (is, (fit .0, (fit .1 .0, tt))) tt refl (var ! 5 refl
+            & var ! 15 refl & var ! 13 refl & no-more !) (λ _.
             into ! (init ! 1 refl (tt, tt)) $ if-then ! (var ! 1 refl)
-            (λ pair. sets ! (of-opd ! (var ! 7 refl)) (init ! 19 refl (tt, at-typed)) $ returns-within ! (Done-at self h) refl (look ! 19 refl) $
+            (λ pair. sets ! (of-opd ! (var ! 7 refl)) (init ! 19 refl (tt, at-typed)) $
+            returns-within ! (Done-at self h) refl (look ! 19 refl) $
             leaves ! (‵ (Views R L hs) ∷ []) locals bs (full locals _) tt $
             check ! (answers i (next-here hs s r end (i .at) before pair ∙ i .same)) $ done !)
             (λ other. let next = onward i before (fit .1 .1 .1 .0 .1) other in
-            sets-last ! (bin ! (var ! 7 refl) (lit ! tt) (record { fits = next .fits })) (store ! 7 refl (tt, record { fits = next .fits })) $
+            sets-last ! (bin ! (var ! 7 refl) (lit ! tt) (record { fits = next .fits })) (store ! 7 refl
+            (tt, record { fits = next .fits })) $
             forget ! 1 refl $ forget ! 3 refl $ forget ! 5 refl $ again ! Shorter At i next (omega (arith, before))))))
             (λ over. exec ! (𝓣 .C) (𝓣 .Λ) En t-3 (atRet En (Done-at self h)) $
             sets ! (of-opd ! (var ! 7 refl)) (init ! 19 refl (tt, at-typed)) $ returns ! (look ! 19 refl) $
-            leaves ! (‵ (Views R L hs) ∷ []) locals bs (holds _ ∷ holds _ ∷ holds _ ∷ holds _ ∷ holds _ ∷ holds _ ∷ holds _ ∷ empty ∷ holds _ ∷ empty ∷ []) tt $
+            leaves ! (‵ (Views R L hs) ∷ []) locals bs (holds _ ∷ holds _ ∷ holds _ ∷ holds _ ∷ holds _ ∷ holds _ ∷ holds _ ∷ empty
+            ∷ holds _ ∷ empty ∷ []) tt $
             check ! (answers i (next-over hs s r end (i .at) (nltb→le (i .at) end over) ∙ i .same)) $ done !)
           where
             answers : (j : Search) → j .at ≡ nextFrom hs s r end start → Is usize (nextFrom hs s r end start) (vint w64 (j .at) ∷ [])
@@ -81,15 +98,18 @@ module _ {M : Type 1} (𝓤 : URA M) (H : Heap 𝓤) (A : Atoms 𝓤) (W : Given
 
       walk : Goes self 𝓣 code.function h
       walk = let start-fits = fit .1 .1 .0 .1 in
-          starts W self 𝓣 code.function h (suited W (self .passes) h fit rooms) (λ bs. sets ! (of-opd ! (var ! 11 refl)) (init ! 7 refl (tt, record { fits = start-fits })) $
+          starts W self 𝓣 code.function h (suited W (self .passes) h fit rooms) (λ bs. sets ! (of-opd ! (var ! 11 refl)) (init ! 7 refl
+          (tt, record { fits = start-fits })) $
           first ! $ blocks ! $ loops ! 𝓣 Shorter Shorter-wf (At bs) (turns bs) (record { at = start; fits = start-fits; same = refl }))
 
 pub next-of-pair-spec : {M : Type 1} → stated.statement M
 unfolding code.routine tablesOf
 next-of-pair-spec 𝓤 H 𝓜 𝓖 𝓡 =
     let A = 𝓖 .A in
-    proved-own 𝓤 H 𝓜 𝓖 𝓡 code.env (next-of-pair-callee 𝓤 H A) tt (λ κs qs. refl) (λ κs qs a g. factI 𝓤 (Unit {0}) _ tt) (λ κs qs a g ws _ e. factI 𝓤 _ (emp 𝓤) refl)
-    #next-of-pair code.function (code.unfolded 𝓤 H 𝓜 𝓡) (λ h fit rooms _. walk 𝓤 H A (givenOf 𝓤 H 𝓜 𝓖) (h .0 .0) (h .0 .1) (h .1 .0) (h .1 .1 .0) (h .1 .1 .1 .0)
+    proved-own 𝓤 H 𝓜 𝓖 𝓡 code.env (next-of-pair-callee 𝓤 H A) tt (λ κs qs. refl) (λ κs qs a g. factI 𝓤 (Unit {0}) _ tt)
+    (λ κs qs a g ws _ e. factI 𝓤 _ (emp 𝓤) refl)
+    #next-of-pair code.function (code.unfolded 𝓤 H 𝓜 𝓡) (λ h fit rooms _. walk 𝓤 H A (givenOf 𝓤 H 𝓜 𝓖) (h .0 .0) (h .0 .1) (h .1 .0)
+    (h .1 .1 .0) (h .1 .1 .1 .0)
     (h .1 .1 .1 .1 .0) fit rooms (own-tables 𝓤 H 𝓜 𝓖 𝓡 code.env)
     (cited 𝓤 H _ 𝓜 𝓡 code.env read-def.name _ code.calls-hops·read (read-thm.met 𝓤 H 𝓜 𝓖 𝓡))
     (cited 𝓤 H _ 𝓜 𝓡 code.env is-pair-def.name _ code.calls-hops·is-pair (is-pair-thm.met 𝓤 H 𝓜 𝓖 𝓡)))

@@ -1,9 +1,14 @@
--- `set_state` meets its contract: a walk of its MIR, by hand. Where the place is in the list the slice is opened, the state of the record there is stored to, and the slice
+-- `set_state` meets its contract: a walk of its MIR, by hand. Where the place is in the list the slice is opened, the state of the record
+-- there is stored to, and the slice
 -- is closed; else nothing is stored, and the list with a record set at that place is the list as it was. Both arms end in `ends`.
-use Rattle.hand_proofs.proofs.Prelude.{_≡_, refl, sym, ap, subst, [], _∷_, List, ℕ, _<_, _≤_, ltb, ltb→lt, nltb→le, getD, set, length-set, set-out, URA, fullShare, w8, w64, vunit, vbool}
-use Rattle.hand_proofs.proofs.Prelude.{vint, vptr, emp, Heap, Tables, Atoms, factI, givenOf, tablesOf, Given, Sq, runs, atRet, ‵, _$_, !, move, drop, rewrite, check, done, look, init}
-use Rattle.hand_proofs.proofs.Prelude.{forget, stop, hop, fld, from, lit, unit-lit, of-opd, bin, assigns-last, exec, returns, whole, sub, store-in, place-is, Loan, slice, Holds, opens}
-use Rattle.hand_proofs.proofs.Prelude.{closes, Handed, Fit, Duty, Rooms, suited, Goes, starts, duty, Done-at, own-tables, proved-own, var, len-of, base-of, equals, sets, Holding, empty}
+use Rattle.hand_proofs.proofs.Prelude.{_≡_, refl, sym, ap, subst, [], _∷_, List, ℕ, _<_, _≤_, ltb, ltb→lt, nltb→le, getD, set, length-set}
+use Rattle.hand_proofs.proofs.Prelude.{set-out, URA, fullShare, w8, w64, vunit, vbool}
+use Rattle.hand_proofs.proofs.Prelude.{vint, vptr, emp, Heap, Tables, Atoms, factI, givenOf, tablesOf, Given, Sq, runs, atRet, ‵, _$_, ! }
+use Rattle.hand_proofs.proofs.Prelude.{move, drop, rewrite, check, done, look, init}
+use Rattle.hand_proofs.proofs.Prelude.{forget, stop, hop, fld, from, lit, unit-lit, of-opd, bin, assigns-last, exec, returns, whole, sub}
+use Rattle.hand_proofs.proofs.Prelude.{store-in, place-is, Loan, slice, Holds, opens}
+use Rattle.hand_proofs.proofs.Prelude.{closes, Handed, Fit, Duty, Rooms, suited, Goes, starts, duty, Done-at, own-tables, proved-own, var}
+use Rattle.hand_proofs.proofs.Prelude.{len-of, base-of, equals, sets, Holding, empty}
 use Rattle.hand_proofs.proofs.Prelude.{holds, envAt, stack, Blocks, leaves, if-then}
 use Rattle.model.specs.declared.Hop.{Hop}
 use Rattle.model.specs.Network.{noHop, hopAt, withState, setState}
@@ -29,7 +34,8 @@ module _ {M : Type 1} (𝓤 : URA M) (H : Heap 𝓤) (A : Atoms 𝓤) (W : Given
     module _ (bs : Blocks locals) where
       -- what the locals hold after the branch, with the result's
       abbrev vs : Holding → List Holding
-      vs r = r ∷ holds (slice L) ∷ holds (vint w64 at) ∷ holds (vint w8 k) ∷ holds (vint w64 (L .count)) ∷ holds (vbool (ltb at (L .count))) ∷ empty ∷ empty ∷ []
+      vs r = r ∷ holds (slice L) ∷ holds (vint w64 at) ∷ holds (vint w8 k) ∷ holds (vint w64 (L .count))
+          ∷ holds (vbool (ltb at (L .count))) ∷ empty ∷ empty ∷ []
 
       ends : (zs : List Hop) → zs ≡ setState at k hs → Sq W (‵ (Holds R L zs) ∷ stack locals bs (vs empty) [])
           (runs (𝓣 .C) (𝓣 .Λ) (envAt locals bs) t-4 (atRet (envAt locals bs) (Done-at self h)))
@@ -53,9 +59,11 @@ module _ {M : Type 1} (𝓤 : URA M) (H : Heap 𝓤) (A : Atoms 𝓤) (W : Given
         sets ! (equals (ap (vptr b) (sym (place-is 8 o at))) (bin ! (base-of ! 13 refl refl) (var ! 3 refl) tt)) (init ! 1 refl (tt, tt)) $
         opens R L ! tt hs (λ p. out ! fullShare hs at b o within (λ is.
         -- [the record's cell; what it owns; the others; the open borrow; both halves of its name; _7; …]
-        assigns-last ! (of-opd ! (var ! 14 refl)) (from ! (hop ! (look ! 6 refl) (fld ! refl (stop !)))) (store-in ! 0 (sub ! 4 refl (whole !)) (tt, record { fits = k-fits })) $
+        assigns-last ! (of-opd ! (var ! 14 refl)) (from ! (hop ! (look ! 6 refl) (fld ! refl (stop !)))) (store-in ! 0 (sub ! 4 refl
+        (whole !)) (tt, record { fits = k-fits })) $
         exec ! (𝓣 .C) (𝓣 .Λ) (envAt locals bs) t-4 (atRet (envAt locals bs) (Done-at self h)) $
-        move ! (1 ∷ []) $ drop ! $ put-in ! hs at new b o within (state-low k (getD hs at noHop) k-fits is) $ closes R L ! tt hs (set hs at new) (length-set hs at new) p $
+        move ! (1 ∷ []) $ drop ! $ put-in ! hs at new b o within (state-low k (getD hs at noHop) k-fits is) $
+        closes R L ! tt hs (set hs at new) (length-set hs at new) p $
         forget ! 1 refl $ forget ! 3 refl $ ends bs (set hs at new) refl)))
         (λ over. ends bs hs (sym (set-out hs at new (subst (λ (n : ℕ). n ≤ at) (rooms .0 .1) (nltb→le at (L .count) over))))))
 
@@ -64,5 +72,6 @@ unfolding code.routine tablesOf
 set-state-spec 𝓤 H 𝓜 𝓖 𝓡 =
     proved-own 𝓤 H 𝓜 𝓖 𝓡 code.env (set-state-callee 𝓤 H (𝓖 .A)) tt (λ κs qs. refl) (λ κs qs a g. factI 𝓤 (Unit {0}) _ tt)
     (λ κs qs a g ws _ e. factI 𝓤 _ (emp 𝓤) (ap (λ es. es .0) e))
-    #set-state code.function (code.unfolded 𝓤 H 𝓜 𝓡) (λ h fit rooms _. walk 𝓤 H (𝓖 .A) (givenOf 𝓤 H 𝓜 𝓖) (own-tables 𝓤 H 𝓜 𝓖 𝓡 code.env) (h .0 .0) (h .0 .1) (h .1 .0)
+    #set-state code.function (code.unfolded 𝓤 H 𝓜 𝓡) (λ h fit rooms _. walk 𝓤 H (𝓖 .A) (givenOf 𝓤 H 𝓜 𝓖) (own-tables 𝓤 H 𝓜 𝓖 𝓡 code.env)
+    (h .0 .0) (h .0 .1) (h .1 .0)
     (h .1 .1 .0) fit rooms)

@@ -1,31 +1,32 @@
 -- `arrive` meets its contract: a walk of its MIR, by hand. The hop's record is read; where the arrival changes nothing, `closed` makes the
--- answer. Else `begun` says where the arrival starts; `set_state` holds the hop; `settle` is lent the lists, and the receiver's row of
--- counts, a local array; `finished` makes the answer and changes the lists. What is answered and left keeps the promise (Promised.antt of
--- bench_promises).
-use Rattle.hand_proofs.proofs.Prelude.{refl, ap, subst, [], _∷_, List, ℕ, _<_, _^_, arith, length, URA, w16, w64, WT, vint, emp, Heap}
-use Rattle.hand_proofs.proofs.Prelude.{Tables, Atoms, fmOf, factI, givenOf, tablesOf, Given, ‵, _$_, !, move, look, init, store, stop, from}
-use Rattle.hand_proofs.proofs.Prelude.{addr, lit, of-opd, no-more, agg, returns, returns-within, u16, Triple, cited, stored, by-uint, Loan}
-use Rattle.hand_proofs.proofs.Prelude.{Holds, Views, Handed, Fit, contractOf, calls, Rooms, suited, RelationalDuty, Goes-related}
-use Rattle.hand_proofs.proofs.Prelude.{starts-related, duty-related, Done-related, concludes, own-tables, proved-own-related, var, ptr-of}
-use Rattle.hand_proofs.proofs.Prelude.{len-of, slice-of, big-lit, _&_, equals, sets, into, full, empty, holds, leaves, if-then, array-loan}
-use Rattle.hand_proofs.proofs.Prelude.{lends-array, array-back}
+-- answer. Else `set_state` holds the hop; where it is not the next of its pair, `held` makes the answer. Else `begun` says where the
+-- arrival starts; `settle` is lent the lists; `finished` makes the answer and changes the lists. What is answered and left keeps the
+-- promise (Promised.antt of bench_promises).
+use mathlib.Core.Path.{_≡_}
+use mathlib.Core.Bool.{Bool, true, false, not}
+use Rattle.hand_proofs.proofs.Prelude.{refl, ap, subst, [], _∷_, List, ℕ, _<_, _^_, T, arith, length, URA, w64, WT, vint, emp, Heap}
+use Rattle.hand_proofs.proofs.Prelude.{Tables, Atoms, fmOf, factI, givenOf, tablesOf, Given, ‵, _$_, !, move, look, init, lit, of-opd}
+use Rattle.hand_proofs.proofs.Prelude.{no-more, returns, returns-within, u16, Triple, cited, stored, Loan, Holds, Views, Handed, Fit}
+use Rattle.hand_proofs.proofs.Prelude.{contractOf, calls, Rooms, suited, RelationalDuty, Goes-related, starts-related, duty-related}
+use Rattle.hand_proofs.proofs.Prelude.{Done-related, concludes, own-tables, proved-own-related, var, ptr-of, len-of, slice-of, big-lit, _&_}
+use Rattle.hand_proofs.proofs.Prelude.{equals, sets, into, full, empty, holds, leaves, if-then}
 use denote.Builtin.{u32}
-use denote.Slice.{Room}
 use Rattle.model.specs.declared.Hop.{Hop}
 use Rattle.model.specs.Network.{hopAt, setState}
 use Rattle.hops.proofs.Places.{came-true, came-false}
 use Rattle.hops.proofs.Records.{R, by-hop}
 use Rattle.hops.proofs.Called.{read-shown-callee, set-state-callee}
-use Rattle.bench_store.specs.Values.{rowIn}
+use Rattle.bench_store.specs.Values.{countIn}
 use Rattle.bench_promises.specs.declared.Totals.{Totals}
 use Rattle.bench_promises.specs.declared.arrival.Arrival.{Arrival}
-use Rattle.bench_promises.specs.Machine.{arriveRefusal, isClosed, begun, Settling, settledFrom, finishedPairs, finishedGauges, arriveEnd}
+use Rattle.bench_promises.specs.Machine.{arriveRefusal, isClosed, isNext, begun, Settling, settledFrom, finishedPairs, finishedGauges}
+use Rattle.bench_promises.specs.Machine.{arriveEnd}
 use Rattle.bench_promises.specs.State.{bench}
-use Rattle.bench_promises.proofs.Promised.{arrive-closed, arrive-open}
-use Rattle.bench_engine.specs.Steps.{closedAs, arrivedAs}
-use Rattle.bench_engine.proofs.Known.{Grid, by-arrival, by-arrived, by-row, place-of-callee, refusal-callee, is-closed-callee}
-use Rattle.bench_engine.proofs.Known.{closed-callee, begun-callee, row-of-callee, settle-callee, finished-arrival-callee}
-use Rattle.bench_engine.proofs.Known.{arrive-callee}
+use Rattle.bench_promises.proofs.Promised.{arrive-closed, arrive-held, arrive-open}
+use Rattle.bench_engine.specs.Steps.{closedAs, heldAs, arrivedAs}
+use Rattle.bench_engine.proofs.Known.{Grid, by-arrival, by-arrived, place-of-callee, refusal-callee, is-closed-callee}
+use Rattle.bench_engine.proofs.Known.{closed-callee, taken-of-callee, is-held-callee, held-callee, begun-callee, settle-callee}
+use Rattle.bench_engine.proofs.Known.{finished-arrival-callee, arrive-callee}
 use Rattle.bench_engine.proofs.arriving.place_of.Symbol as place-of-def
 use Rattle.bench_engine.proofs.arriving.place_of.Met as place-of-thm
 use Rattle.hops.proofs.read.Symbol as read-def
@@ -36,12 +37,16 @@ use Rattle.bench_engine.proofs.arriving.is_closed.Symbol as is-closed-d
 use Rattle.bench_engine.proofs.arriving.is_closed.Met as is-closed-thm
 use Rattle.bench_engine.proofs.arriving.closed.Symbol as closed-def
 use Rattle.bench_engine.proofs.arriving.closed.Met as closed-thm
-use Rattle.bench_engine.proofs.arriving.begun.Symbol as begun-def
-use Rattle.bench_engine.proofs.arriving.begun.Met as begun-thm
+use Rattle.bench_engine.proofs.arriving.taken_of.Symbol as taken-of-def
+use Rattle.bench_engine.proofs.arriving.taken_of.Met as taken-of-thm
 use Rattle.hops.proofs.set_state.Symbol as set-state-def
 use Rattle.hops.proofs.set_state.Met as set-state-thm
-use Rattle.bench_engine.proofs.arriving.row_of.Symbol as row-of-def
-use Rattle.bench_engine.proofs.arriving.row_of.Met as row-of-thm
+use Rattle.bench_engine.proofs.arriving.is_held.Symbol as is-held-def
+use Rattle.bench_engine.proofs.arriving.is_held.Met as is-held-thm
+use Rattle.bench_engine.proofs.arriving.held.Symbol as held-def
+use Rattle.bench_engine.proofs.arriving.held.Met as held-thm
+use Rattle.bench_engine.proofs.arriving.begun.Symbol as begun-def
+use Rattle.bench_engine.proofs.arriving.begun.Met as begun-thm
 use Rattle.bench_engine.proofs.arriving.settle.Symbol as settle-def
 use Rattle.bench_engine.proofs.arriving.settle.Met as settle-thm
 use Rattle.bench_engine.proofs.arriving.finished.Symbol as finished-def
@@ -58,18 +63,25 @@ record Known {M : Type 1} (𝓤 : URA M) (H : Heap 𝓤) (A : Atoms 𝓤) (𝓣 
   of-refusal : Triple 𝓤 (𝓣 .C refusal-def.name) (contractOf (refusal-callee 𝓤 H A))
   of-is-closed : Triple 𝓤 (𝓣 .C is-closed-def.name) (contractOf (is-closed-callee 𝓤 H A))
   of-closed : Triple 𝓤 (𝓣 .C closed-def.name) (contractOf (closed-callee 𝓤 H A))
-  of-begun : Triple 𝓤 (𝓣 .C begun-def.name) (contractOf (begun-callee 𝓤 H A))
+  of-taken-of : Triple 𝓤 (𝓣 .C taken-of-def.name) (contractOf (taken-of-callee 𝓤 H A))
   of-set-state : Triple 𝓤 (𝓣 .C set-state-def.name) (contractOf (set-state-callee 𝓤 H A))
-  of-row-of : Triple 𝓤 (𝓣 .C row-of-def.name) (contractOf (row-of-callee 𝓤 H A))
+  of-is-held : Triple 𝓤 (𝓣 .C is-held-def.name) (contractOf (is-held-callee 𝓤 H A))
+  of-held : Triple 𝓤 (𝓣 .C held-def.name) (contractOf (held-callee 𝓤 H A))
+  of-begun : Triple 𝓤 (𝓣 .C begun-def.name) (contractOf (begun-callee 𝓤 H A))
   of-settle : Triple 𝓤 (𝓣 .C settle-def.name) (contractOf (settle-callee 𝓤 H A))
   of-finished : Triple 𝓤 (𝓣 .C finished-def.name) (contractOf (finished-arrival-callee 𝓤 H A))
+
+-- the test that was branched on: a copy that is not held is the next of its pair
+not-held : (b : Bool) → T (not (not b)) → b ≡ true
+not-held true t = refl
+not-held false t = absurd t
 
 module _ {M : Type 1} (𝓤 : URA M) (H : Heap 𝓤) (A : Atoms 𝓤) (W : Given 𝓤 H A) (𝓣 : Tables 𝓤 H) (known : Known 𝓤 H A 𝓣) where
   abbrev self : RelationalDuty 𝓤 H A
   self = duty-related (arrive-callee 𝓤 H A)
 
   walk : (h : Handed (self .passes)) → Fit (self .passes) h → Rooms (self .passes) h → Goes-related self 𝓣 code.function h
-  unfolding closedAs arrivedAs arriveEnd
+  unfolding closedAs heldAs arrivedAs arriveEnd
   walk h fit rooms =
       let fm = fmOf 𝓤 H (W .laws) 𝓣 in
       let t : Totals = h .0 in let j : ℕ = h .1 .0 in
@@ -84,10 +96,10 @@ module _ {M : Type 1} (𝓤 : URA M) (H : Heap 𝓤) (A : Atoms 𝓤) (W : Given
       let hops-fit : length hs < 2 ^ 64 = subst (λ (k : ℕ). k < 2 ^ 64) (hops-room .1) (hops-room .0 .0) in
       let book-fits : length book < 2 ^ 64 = subst (λ (k : ℕ). k < 2 ^ 64) (book-room .1) (book-room .0 .0) in
       let one-fits : 1 < 2 ^ 8 = omega arith in let all-fit : 2000 < 2 ^ 64 = omega arith in
-      let fits : 32 < 2 ^ 64 = omega arith in let room : Room u16 32 = (fits, omega arith) in
       let number : ℕ = arriveRefusal (t .made) j (length hs) (length book) in let hop : Hop = hopAt hs j in
-      let start : Arrival = begun t ps gs j hop 2000 in let row : List ℕ = rowIn ps 0 (hop .receiver) in
-      let end : Settling = settledFrom ts ms start row (setState j 1 hs) book in let last : Arrival = end .arrival in
+      let taken : ℕ = countIn ps 1 (hop .sender) (hop .receiver) in let held-hops : List Hop = setState j 1 hs in
+      let start : Arrival = begun t ps gs j hop taken 2000 in
+      let end : Settling = settledFrom ts ms start ps held-hops book in let last : Arrival = end .arrival in
       let messages-wt : WT (vint w64 (J .count)) = record { fits = rooms .1 .0 .0 .0 } in
       let pairs-wt : WT (vint w64 (K .count)) = record { fits = rooms .1 .1 .0 .0 .0 } in
       let gauges-wt : WT (vint w64 (Q .count)) = record { fits = rooms .1 .1 .1 .0 .0 .0 } in
@@ -131,70 +143,77 @@ module _ {M : Type 1} (𝓤 : URA M) (H : Heap 𝓤) (A : Atoms 𝓤) (W : Given
       (λ test.
       sets ! (ptr-of ! 78 refl refl) (init ! 48 refl (tt, tt)) $ sets ! (slice-of ! 48 78 refl refl refl)
       (init ! 46 refl (tt, (tt, (pairs-wt, tt)))) $
-      sets ! (ptr-of ! 76 refl refl) (init ! 44 refl (tt, tt)) $ sets ! (slice-of ! 44 76 refl refl refl)
-      (init ! 42 refl (tt, (tt, (gauges-wt, tt)))) $
-      move ! (3 ∷ 4 ∷ []) $
-      -- [pairs; gauges; hops; tables; messages; book]
-      calls ! fm (begun-callee 𝓤 H A) (known .of-begun) (t, (j, (hop, (2000, ((K, ps), ((Q, gs), tt))))))
-      (t-is, (place-is, (hop-is, ((refl, all-fit), tt)))) tt refl
-      (var ! 86 refl & var ! 66 refl & var ! 64 refl & big-lit ! all-fit & var ! 46 refl & var ! 42 refl & no-more !) (λ start-is.
-      into ! (init ! 60 refl (stored W by-arrival start start-is .0)) $
-      sets ! (ptr-of ! 74 refl refl) (init ! 38 refl (tt, tt)) $ sets ! (slice-of ! 38 74 refl refl refl)
-      (init ! 36 refl (tt, (tt, (hops-wt, tt)))) $
-      move ! (2 ∷ []) $
-      -- [hops; pairs; gauges; tables; messages; book]
-      calls ! fm (set-state-callee 𝓤 H A) (known .of-set-state) ((L, hs), (j, (1, tt))) (place-is, ((refl, one-fits), tt)) tt refl
-      (var ! 36 refl & var ! 66 refl & lit ! tt & no-more !) (λ _. into ! (init ! 40 refl (tt, tt)) $
-      sets ! (ptr-of ! 78 refl refl) (init ! 32 refl (tt, tt)) $ sets ! (slice-of ! 32 78 refl refl refl)
-      (init ! 30 refl (tt, (tt, (pairs-wt, tt)))) $
+      move ! (3 ∷ []) $
+      -- [pairs; hops; tables; messages; gauges; book]
+      calls ! fm (taken-of-callee 𝓤 H A) (known .of-taken-of) (hop, ((K, ps), tt)) (hop-is, tt) tt refl
+      (var ! 64 refl & var ! 46 refl & no-more !) (λ taken-is.
+      into ! (init ! 60 refl (tt, record { fits = taken-is .1 })) $
+      sets ! (ptr-of ! 74 refl refl) (init ! 42 refl (tt, tt)) $ sets ! (slice-of ! 42 74 refl refl refl)
+      (init ! 40 refl (tt, (tt, (hops-wt, tt)))) $
       move ! (1 ∷ []) $
-      -- [pairs; hops; gauges; tables; messages; book]
-      calls ! fm (row-of-callee 𝓤 H A) (known .of-row-of) (hop, ((K, ps), tt)) (hop-is, tt) tt refl
-      (var ! 64 refl & var ! 30 refl & no-more !) (λ row-is.
-      into ! (init ! 34 refl (stored W by-row row row-is .0)) $ sets ! (of-opd ! (var ! 34 refl))
-      (init ! 58 refl (stored W by-row row row-is .0)) $
+      -- [hops; pairs; tables; messages; gauges; book]
+      calls ! fm (set-state-callee 𝓤 H A) (known .of-set-state) ((L, hs), (j, (1, tt))) (place-is, ((refl, one-fits), tt)) tt refl
+      (var ! 40 refl & var ! 66 refl & lit ! tt & no-more !) (λ _. into ! (init ! 44 refl (tt, tt)) $
+      calls ! fm (is-held-callee 𝓤 H A) (known .of-is-held) (taken, (hop, tt)) (taken-is, (hop-is, tt)) tt refl
+      (var ! 60 refl & var ! 64 refl & no-more !) (λ _.
+      into ! (init ! 38 refl (tt, tt)) $
+      if-then ! (var ! 38 refl)
+      (λ waits.
+      calls ! fm (held-callee 𝓤 H A) (known .of-held) (t, tt) (t-is, tt) tt refl (var ! 86 refl & no-more !) (λ r-is.
+      into ! (init ! 88 refl (stored W by-arrived (heldAs t) r-is .0)) $ move ! (2 ∷ 3 ∷ 1 ∷ 4 ∷ []) $
+      returns-within ! (Done-related self h) refl (look ! 88 refl) $
+      leaves ! (‵ (Views u32 I ts) ∷ ‵ (Holds u32 J ms) ∷ ‵ (Holds Grid K ps) ∷ ‵ (Holds u16 Q gs) ∷ ‵ (Holds R L held-hops) ∷ ‵
+      (Holds u16 N book) ∷ []) locals bs
+      (holds _ ∷ holds _ ∷ holds _ ∷ holds _ ∷ holds _ ∷ holds _ ∷ holds _ ∷ holds _ ∷ holds _ ∷ holds _ ∷ holds _ ∷ holds _ ∷ holds _ ∷
+      holds _ ∷ holds _ ∷
+      empty ∷ empty ∷ holds _ ∷ holds _ ∷ holds _ ∷ holds _ ∷ holds _ ∷ holds _ ∷ holds _ ∷ holds _ ∷ holds _ ∷
+      empty ∷ empty ∷ empty ∷ empty ∷ empty ∷ empty ∷ empty ∷ empty ∷
+      empty ∷ empty ∷ empty ∷ empty ∷ empty ∷ empty ∷ empty ∷ empty ∷ []) tt $
+      concludes ! self h (heldAs t) (ms, (ps, (gs, (held-hops, (book, tt))))) r-is
+      (arrive-held (bench t ts ms ps gs) j hs book (came-false (isClosed number hop) test) (came-false (isNext taken hop) waits))))
+      (λ goes.
+      sets ! (ptr-of ! 78 refl refl) (init ! 36 refl (tt, tt)) $ sets ! (slice-of ! 36 78 refl refl refl)
+      (init ! 34 refl (tt, (tt, (pairs-wt, tt)))) $
+      sets ! (ptr-of ! 76 refl refl) (init ! 32 refl (tt, tt)) $ sets ! (slice-of ! 32 76 refl refl refl)
+      (init ! 30 refl (tt, (tt, (gauges-wt, tt)))) $
+      move ! (1 ∷ 4 ∷ []) $
+      -- [pairs; gauges; hops; tables; messages; book]
+      calls ! fm (begun-callee 𝓤 H A) (known .of-begun) (t, (j, (hop, (taken, (2000, ((K, ps), ((Q, gs), tt)))))))
+      (t-is, (place-is, (hop-is, (taken-is, ((refl, all-fit), tt))))) tt refl
+      (var ! 86 refl & var ! 66 refl & var ! 64 refl & var ! 60 refl & big-lit ! all-fit & var ! 34 refl & var ! 30 refl & no-more !)
+      (λ start-is. into ! (init ! 58 refl (stored W by-arrival start start-is .0)) $
       sets ! (ptr-of ! 80 refl refl) (init ! 28 refl (tt, tt)) $ sets ! (slice-of ! 28 80 refl refl refl)
       (init ! 26 refl (tt, (tt, (messages-wt, tt)))) $
-      sets ! (addr ! (from ! (stop !))) (init ! 24 refl (tt, tt)) $
-      sets ! (agg ! (var ! 24 refl & lit ! tt & no-more !)) (init ! 22 refl (tt, (tt, (record { fits = fits }, tt)))) $
+      sets ! (ptr-of ! 78 refl refl) (init ! 24 refl (tt, tt)) $ sets ! (slice-of ! 24 78 refl refl refl)
+      (init ! 22 refl (tt, (tt, (pairs-wt, tt)))) $
       sets ! (ptr-of ! 74 refl refl) (init ! 20 refl (tt, tt)) $ sets ! (slice-of ! 20 74 refl refl refl)
       (init ! 18 refl (tt, (tt, (hops-wt, tt)))) $
       sets ! (ptr-of ! 72 refl refl) (init ! 16 refl (tt, tt)) $ sets ! (slice-of ! 16 72 refl refl refl)
       (init ! 14 refl (tt, (tt, (book-wt, tt)))) $
-      lends-array ! tt (by-uint w16) tt 58 32 row row-is room refl
-      (λ α γ. let C : Loan = array-loan 32 (bs .1 .1 .1 .1 .1 .1 .1 .1 .1 .1 .1 .1 .1 .1 .1 .0) α γ in
-      move ! (4 ∷ 5 ∷ 0 ∷ 2 ∷ 6 ∷ []) $
-      -- [tables; messages; row; hops; book; pairs; gauges; the locals]
-      calls ! fm (settle-callee 𝓤 H A) (known .of-settle) (
-        start,
-        ((I, ts), ((J, ms), ((C, row), ((L, setState j 1 hs), ((N, book), tt))))),
-      ) (start-is, tt) tt refl
-      (var ! 61 refl & var ! 83 refl & var ! 27 refl & var ! 23 refl & var ! 19 refl & var ! 15 refl & no-more !)
-      (λ end-is. into ! (init ! 57 refl (stored W by-arrival last end-is .0)) $
-      move ! (2 ∷ []) $ array-back ! tt (by-uint w16) 58 (end .row) refl (λ left-are.
-      -- [tables; messages; hops; book; pairs; gauges]
-      sets ! (of-opd ! (var ! 58 refl)) (store ! 34 refl (stored W by-row (end .row) left-are .0)) $
+      move ! (3 ∷ 4 ∷ 0 ∷ 2 ∷ 5 ∷ []) $
+      -- [tables; messages; pairs; hops; book; gauges]
+      calls ! fm (settle-callee 𝓤 H A) (known .of-settle) (start, ((I, ts), ((J, ms), ((K, ps), ((L, held-hops), ((N, book), tt))))))
+      (start-is, tt) tt refl
+      (var ! 58 refl & var ! 82 refl & var ! 26 refl & var ! 22 refl & var ! 18 refl & var ! 14 refl & no-more !)
+      (λ end-is. into ! (init ! 56 refl (stored W by-arrival last end-is .0)) $
       sets ! (ptr-of ! 78 refl refl) (init ! 12 refl (tt, tt)) $ sets ! (slice-of ! 12 78 refl refl refl)
       (init ! 10 refl (tt, (tt, (pairs-wt, tt)))) $
       sets ! (ptr-of ! 76 refl refl) (init ! 8 refl (tt, tt)) $ sets ! (slice-of ! 8 76 refl refl refl)
       (init ! 6 refl (tt, (tt, (gauges-wt, tt)))) $
-      move ! (4 ∷ 5 ∷ []) $
+      move ! (2 ∷ 5 ∷ []) $
       -- [pairs; gauges; tables; messages; hops; book]
-      calls ! fm (finished-arrival-callee 𝓤 H A) (known .of-finished) (t, (last, (end .row, ((K, ps), ((Q, gs), tt)))))
-      (t-is, (end-is, (left-are, tt))) tt refl
-      (var ! 86 refl & var ! 56 refl & var ! 34 refl & var ! 10 refl & var ! 6 refl & no-more !) (λ r-is.
+      calls ! fm (finished-arrival-callee 𝓤 H A) (known .of-finished) (t, (last, ((K, end .pairs), ((Q, gs), tt)))) (t-is, (end-is, tt)) tt
+      refl
+      (var ! 86 refl & var ! 56 refl & var ! 10 refl & var ! 6 refl & no-more !) (λ r-is.
       into ! (init ! 88 refl (stored W by-arrived (arrivedAs t last) r-is .0)) $ move ! (2 ∷ 3 ∷ 0 ∷ 1 ∷ []) $ returns ! (look ! 88 refl) $
-      leaves ! (‵ (Views u32 I ts) ∷ ‵ (Holds u32 J ms) ∷ ‵ (Holds Grid K (finishedPairs last (end .row) ps)) ∷ ‵
+      leaves ! (‵ (Views u32 I ts) ∷ ‵ (Holds u32 J ms) ∷ ‵ (Holds Grid K (finishedPairs last (end .pairs))) ∷ ‵
       (Holds u16 Q (finishedGauges last gs))
       ∷ ‵ (Holds R L (end .hops)) ∷ ‵ (Holds u16 N (end .book)) ∷ []) locals bs (full locals _) tt $
       concludes ! self h (arrivedAs t last) (
         ms,
-        (
-          finishedPairs last (end .row) ps,
-          (finishedGauges last gs, (end .hops, (end .book, tt))),
-        ),
+        (finishedPairs last (end .pairs), (finishedGauges last gs, (end .hops, (end .book, tt)))),
       ) r-is
-      (arrive-open (bench t ts ms ps gs) j hs book (came-false (isClosed number hop) test)))))))))))))))
+      (arrive-open (bench t ts ms ps gs) j hs book (came-false (isClosed number hop) test) (not-held (isNext taken hop) goes)))))))))))))))
 
 pub arrive-spec : {M : Type 1} → stated.statement M
 unfolding code.routine tablesOf
@@ -208,9 +227,11 @@ arrive-spec 𝓤 H 𝓜 𝓖 𝓡 =
       of-refusal = cited 𝓤 H _ 𝓜 𝓡 code.env refusal-def.name _ code.calls-bench-engine·arriving·refusal (refusal-thm.met 𝓤 H 𝓜 𝓖 𝓡);
       of-is-closed = cited 𝓤 H _ 𝓜 𝓡 code.env is-closed-def.name _ code.calls-bench-engine·arriving·is-closed (is-closed-thm.met 𝓤 H 𝓜 𝓖 𝓡);
       of-closed = cited 𝓤 H _ 𝓜 𝓡 code.env closed-def.name _ code.calls-bench-engine·arriving·closed (closed-thm.met 𝓤 H 𝓜 𝓖 𝓡);
-      of-begun = cited 𝓤 H _ 𝓜 𝓡 code.env begun-def.name _ code.calls-bench-engine·arriving·begun (begun-thm.met 𝓤 H 𝓜 𝓖 𝓡);
+      of-taken-of = cited 𝓤 H _ 𝓜 𝓡 code.env taken-of-def.name _ code.calls-bench-engine·arriving·taken-of (taken-of-thm.met 𝓤 H 𝓜 𝓖 𝓡);
       of-set-state = cited 𝓤 H _ 𝓜 𝓡 code.env set-state-def.name _ code.calls-hops·set-state (set-state-thm.met 𝓤 H 𝓜 𝓖 𝓡);
-      of-row-of = cited 𝓤 H _ 𝓜 𝓡 code.env row-of-def.name _ code.calls-bench-engine·arriving·row-of (row-of-thm.met 𝓤 H 𝓜 𝓖 𝓡);
+      of-is-held = cited 𝓤 H _ 𝓜 𝓡 code.env is-held-def.name _ code.calls-bench-engine·arriving·is-held (is-held-thm.met 𝓤 H 𝓜 𝓖 𝓡);
+      of-held = cited 𝓤 H _ 𝓜 𝓡 code.env held-def.name _ code.calls-bench-engine·arriving·held (held-thm.met 𝓤 H 𝓜 𝓖 𝓡);
+      of-begun = cited 𝓤 H _ 𝓜 𝓡 code.env begun-def.name _ code.calls-bench-engine·arriving·begun (begun-thm.met 𝓤 H 𝓜 𝓖 𝓡);
       of-settle = cited 𝓤 H _ 𝓜 𝓡 code.env settle-def.name _ code.calls-bench-engine·arriving·settle (settle-thm.met 𝓤 H 𝓜 𝓖 𝓡);
       of-finished = cited 𝓤 H _ 𝓜 𝓡 code.env finished-def.name _ code.calls-bench-engine·arriving·finished (finished-thm.met 𝓤 H 𝓜 𝓖 𝓡);
     } h fit rooms)

@@ -1,13 +1,13 @@
 -- `next` meets its contract: a walk of its MIR, by hand. Each call is one step (`calls`); the shared slice is lent on to `next_of_pair` and
--- to `read`.
+-- to `state_at`.
 use Rattle.hand_proofs.proofs.Prelude.{refl, [], _∷_, List, ℕ, URA, emp, Heap, Tables, Atoms, fmOf, factI, givenOf, tablesOf, Given, ‵, _$_}
 use Rattle.hand_proofs.proofs.Prelude.{ !, check, done, look, init, no-more, returns, Triple, cited, stored, Loan, Views, Handed, Fit}
 use Rattle.hand_proofs.proofs.Prelude.{contractOf, calls, Duty, Rooms, suited, Goes, starts, duty, own-tables, proved-own, var, _&_, into}
 use Rattle.hand_proofs.proofs.Prelude.{full, leaves}
 use Rattle.model.specs.declared.Hop.{Hop}
 use Rattle.model.specs.Network.{hopAt}
-use Rattle.hops.proofs.Records.{R, typed}
-use Rattle.hops.proofs.Called.{read-callee, next-of-pair-callee}
+use Rattle.hops.proofs.Records.{R}
+use Rattle.hops.proofs.Called.{state-at-callee, next-of-pair-callee}
 use Rattle.bench_promises.specs.declared.arrival.Arrival.{Arrival}
 use Rattle.bench_promises.specs.Machine.{searchFrom, searchEnd, movedTo, nextPlace, nextArrival}
 use Rattle.bench_engine.proofs.Known.{by-arrival, search-from-callee, search-end-callee, sender-callee, receiver-callee}
@@ -22,8 +22,8 @@ use Rattle.bench_engine.proofs.arriving.receiver.Symbol as receiver-def
 use Rattle.bench_engine.proofs.arriving.receiver.Met as receiver-thm
 use Rattle.hops.proofs.next_of_pair.Symbol as next-of-pair-def
 use Rattle.hops.proofs.next_of_pair.Met as next-of-pair-thm
-use Rattle.hops.proofs.read.Symbol as read-def
-use Rattle.hops.proofs.read.Met as read-thm
+use Rattle.hops.proofs.state_at.Symbol as state-at-def
+use Rattle.hops.proofs.state_at.Met as state-at-thm
 use Rattle.bench_engine.proofs.arriving.moved.Symbol as moved-def
 use Rattle.bench_engine.proofs.arriving.moved.Met as moved-thm
 use Rattle.bench_engine.proofs.arriving.next.Key.{name as #next}
@@ -38,7 +38,7 @@ record Known {M : Type 1} (𝓤 : URA M) (H : Heap 𝓤) (A : Atoms 𝓤) (𝓣 
   of-sender : Triple 𝓤 (𝓣 .C sender-def.name) (contractOf (sender-callee 𝓤 H A))
   of-receiver : Triple 𝓤 (𝓣 .C receiver-def.name) (contractOf (receiver-callee 𝓤 H A))
   of-next-of-pair : Triple 𝓤 (𝓣 .C next-of-pair-def.name) (contractOf (next-of-pair-callee 𝓤 H A))
-  of-read : Triple 𝓤 (𝓣 .C read-def.name) (contractOf (read-callee 𝓤 H A))
+  of-state-at : Triple 𝓤 (𝓣 .C state-at-def.name) (contractOf (state-at-callee 𝓤 H A))
   of-moved : Triple 𝓤 (𝓣 .C moved-def.name) (contractOf (moved-callee 𝓤 H A))
 
 module _ {M : Type 1} (𝓤 : URA M) (H : Heap 𝓤) (A : Atoms 𝓤) (W : Given 𝓤 H A) (𝓣 : Tables 𝓤 H) (known : Known 𝓤 H A 𝓣) where
@@ -51,7 +51,7 @@ module _ {M : Type 1} (𝓤 : URA M) (H : Heap 𝓤) (A : Atoms 𝓤) (W : Given
       let a : Arrival = h .0 in let L : Loan = h .1 .0 .0 in let hs : List Hop = h .1 .0 .1 in
       let a-is = fit .0 in
       let from′ : ℕ = searchFrom a in let end′ : ℕ = searchEnd a in
-      let place : ℕ = nextPlace a hs in let hop : Hop = hopAt hs place in
+      let place : ℕ = nextPlace a hs in let state : ℕ = hopAt hs place .state in
       let fm = fmOf 𝓤 H (W .laws) 𝓣 in
       starts W self 𝓣 code.function h (suited W (self .passes) h fit rooms) (λ bs.
       -- [the slice; the locals, the last first]
@@ -67,12 +67,12 @@ module _ {M : Type 1} (𝓤 : URA M) (H : Heap 𝓤) (A : Atoms 𝓤) (W : Given
       (s-is, (r-is, (from-is, (end-is, tt)))) tt refl (var ! 13 refl & var ! 7 refl & var ! 5 refl & var ! 11 refl & var ! 9 refl & no-more
       !) (λ place-is.
       into ! (init ! 3 refl (tt, record { fits = place-is .1 })) $
-      calls ! fm (read-callee 𝓤 H A) (known .of-read) ((L, hs), (place, tt)) (place-is, tt) tt refl
-      (var ! 13 refl & var ! 3 refl & no-more !) (λ hop-is.
-      into ! (init ! 1 refl (typed hop hop-is)) $
-      calls ! fm (moved-callee 𝓤 H A) (known .of-moved) (a, (place, (hop, tt))) (a-is, (place-is, (hop-is, tt))) tt refl
+      calls ! fm (state-at-callee 𝓤 H A) (known .of-state-at) ((L, hs), (place, tt)) (place-is, tt) tt refl
+      (var ! 13 refl & var ! 3 refl & no-more !) (λ state-is.
+      into ! (init ! 1 refl (tt, record { fits = state-is .1 })) $
+      calls ! fm (moved-callee 𝓤 H A) (known .of-moved) (a, (place, (state, tt))) (a-is, (place-is, (state-is, tt))) tt refl
       (var ! 15 refl & var ! 3 refl & var ! 1 refl & no-more !)
-      (λ moved-is. into ! (init ! 17 refl (stored W by-arrival (movedTo a place hop) moved-is .0)) $
+      (λ moved-is. into ! (init ! 17 refl (stored W by-arrival (movedTo a place state) moved-is .0)) $
       returns ! (look ! 17 refl) $
       leaves ! (‵ (Views R L hs) ∷ []) locals bs (full locals _) tt $
       check ! moved-is $ done !))))))))
@@ -91,6 +91,6 @@ next-spec 𝓤 H 𝓜 𝓖 𝓡 =
       of-sender = cited 𝓤 H _ 𝓜 𝓡 code.env sender-def.name _ code.calls-bench-engine·arriving·sender (sender-thm.met 𝓤 H 𝓜 𝓖 𝓡);
       of-receiver = cited 𝓤 H _ 𝓜 𝓡 code.env receiver-def.name _ code.calls-bench-engine·arriving·receiver (receiver-thm.met 𝓤 H 𝓜 𝓖 𝓡);
       of-next-of-pair = cited 𝓤 H _ 𝓜 𝓡 code.env next-of-pair-def.name _ code.calls-hops·next-of-pair (next-of-pair-thm.met 𝓤 H 𝓜 𝓖 𝓡);
-      of-read = cited 𝓤 H _ 𝓜 𝓡 code.env read-def.name _ code.calls-hops·read (read-thm.met 𝓤 H 𝓜 𝓖 𝓡);
+      of-state-at = cited 𝓤 H _ 𝓜 𝓡 code.env state-at-def.name _ code.calls-hops·state-at (state-at-thm.met 𝓤 H 𝓜 𝓖 𝓡);
       of-moved = cited 𝓤 H _ 𝓜 𝓡 code.env moved-def.name _ code.calls-bench-engine·arriving·moved (moved-thm.met 𝓤 H 𝓜 𝓖 𝓡);
     } h fit rooms)

@@ -12,9 +12,9 @@ use denote.Builtin.{u32}
 use Rattle.model.specs.declared.Hop.{Hop}
 use Rattle.hops.proofs.Records.{R}
 use Rattle.bench_promises.specs.declared.arrival.Arrival.{Arrival}
-use Rattle.bench_promises.specs.Machine.{takeArrival, takeRow, takeHops, takeBook, isGoing, Settling, settledFrom}
+use Rattle.bench_promises.specs.Machine.{takeArrival, takePairs, takeHops, takeBook, isGoing, Settling, settledFrom}
 use Rattle.bench_promises.proofs.Turns.{onward, ahead, nearer, Leads, at-start, turned, over}
-use Rattle.bench_engine.proofs.Known.{Arr, by-arrival, is-going-callee, take-callee, next-shown-callee, settle-callee}
+use Rattle.bench_engine.proofs.Known.{Arr, Grid, by-arrival, is-going-callee, take-callee, next-shown-callee, settle-callee}
 use Rattle.bench_engine.proofs.arriving.is_going.Symbol as is-going-def
 use Rattle.bench_engine.proofs.arriving.is_going.Met as is-going-thm
 use Rattle.bench_engine.proofs.arriving.take.Symbol as take-def
@@ -36,23 +36,23 @@ module _ {M : Type 1} (𝓤 : URA M) (H : Heap 𝓤) (A : Atoms 𝓤) (W : Given
   abbrev self : Duty 𝓤 H A
   self = duty (settle-callee 𝓤 H A)
 
-  module _ (start : Arrival) (I : Loan) (ts : List ℕ) (J : Loan) (ms : List ℕ) (C : Loan) (row₀ : List ℕ) (L : Loan) (hs₀ : List Hop)
-      (N : Loan) (book₀ : List ℕ) where
+  module _ (start : Arrival) (I : Loan) (ts : List ℕ) (J : Loan) (ms : List ℕ) (K : Loan) (ps₀ : List (List (List ℕ))) (L : Loan)
+      (hs₀ : List Hop) (N : Loan) (book₀ : List ℕ) where
     abbrev h : Handed (self .passes)
-    h = (start, ((I, ts), ((J, ms), ((C, row₀), ((L, hs₀), ((N, book₀), tt))))))
+    h = (start, ((I, ts), ((J, ms), ((K, ps₀), ((L, hs₀), ((N, book₀), tt))))))
 
     abbrev end : Settling
-    end = settledFrom ts ms start row₀ hs₀ book₀
+    end = settledFrom ts ms start ps₀ hs₀ book₀
 
     -- the loop's state
     record Going : Type 0 where
       a : Arrival
       is : Is Arr a (by-arrival .word a ∷ [])
-      row : List ℕ
+      ps : List (List (List ℕ))
       hs : List Hop
       book : List ℕ
       k : ℕ
-      to-end : Leads ts ms end k a row hs book
+      to-end : Leads ts ms end k a ps hs book
 
     abbrev Nearer : Going → Going → Type 0
     Nearer j i = ahead ts ms (j .a) < ahead ts ms (i .a)
@@ -62,14 +62,14 @@ module _ {M : Type 1} (𝓤 : URA M) (H : Heap 𝓤) (A : Atoms 𝓤) (W : Given
 
     -- the arrival after a turn
     abbrev later : Going → Arrival
-    later i = onward ts ms (i .a) (i .row) (i .hs)
+    later i = onward ts ms (i .a) (i .ps) (i .hs)
 
     abbrev next : (i : Going) → T (isGoing (i .a)) → Is Arr (later i) (by-arrival .word (later i) ∷ []) → Going
-    next i goes is = let r = turned ts ms (i .k) (i .a) (i .row) (i .hs) (i .book) goes (i .to-end) in record {
+    next i goes is = let r = turned ts ms (i .k) (i .a) (i .ps) (i .hs) (i .book) goes (i .to-end) in record {
       a = later i;
       is = is;
-      row = takeRow ts ms (i .a) (i .row) (i .hs);
-      hs = takeHops ts ms (i .a) (i .row) (i .hs);
+      ps = takePairs ts ms (i .a) (i .ps) (i .hs);
+      hs = takeHops ts ms (i .a) (i .ps) (i .hs);
       book = takeBook ts ms (i .a) (i .hs) (i .book);
       k = r .0;
       to-end = r .1;
@@ -83,19 +83,19 @@ module _ {M : Type 1} (𝓤 : URA M) (H : Heap 𝓤) (A : Atoms 𝓤) (W : Given
         -- what the locals hold where a turn begins or the function ends: the result, the arrival, and the test
         abbrev vs : Holding → Going → Holding → List Holding
         vs r i test =
-            r ∷ holds (by-arrival .word start) ∷ holds (slice I) ∷ holds (slice J) ∷ holds (slice C) ∷ holds (slice L) ∷ holds (slice N) ∷
+            r ∷ holds (by-arrival .word start) ∷ holds (slice I) ∷ holds (slice J) ∷ holds (slice K) ∷ holds (slice L) ∷ holds (slice N) ∷
             holds (by-arrival .word (i .a)) ∷
             empty ∷ test ∷ empty ∷ empty ∷ empty ∷ empty ∷ empty ∷ empty ∷ empty ∷ empty ∷ empty ∷ empty ∷ []
 
-        -- the invariant: [tables; messages; row; hops; book; the locals, the last first]
+        -- the invariant: [tables; messages; pairs; hops; book; the locals, the last first]
         abbrev At : Going → List (Item 𝓤)
-        At i = ‵ (Views u32 I ts) ∷ ‵ (Holds u32 J ms) ∷ ‵ (Holds u16 C (i .row)) ∷ ‵ (Holds R L (i .hs)) ∷ ‵ (Holds u16 N (i .book)) ∷
+        At i = ‵ (Views u32 I ts) ∷ ‵ (Holds u32 J ms) ∷ ‵ (Holds Grid K (i .ps)) ∷ ‵ (Holds R L (i .hs)) ∷ ‵ (Holds u16 N (i .book)) ∷
             stack locals bs (vs empty i empty) []
 
         turns : (i : Going) → Sq W (At i) (runs (𝓣 .C) (𝓣 .Λ) En turn-1 (anyQ (Turned 𝓤 H A 𝓣 En t-3 (Done-at self h) Nearer At i)))
         unfolding afterTurn
         turns i =
-            let fm = fmOf 𝓤 H (W .laws) 𝓣 in let b : Arrival = takeArrival ts ms (i .a) (i .row) (i .hs) in
+            let fm = fmOf 𝓤 H (W .laws) 𝓣 in let b : Arrival = takeArrival ts ms (i .a) (i .ps) (i .hs) in
             calls ! fm (is-going-callee 𝓤 H A) (known .of-is-going) (i .a, tt) (i .is, tt) tt refl (var ! 29 refl & no-more !)
             (λ _. into ! (init ! 25 refl (tt, tt)) $
             while-test ! (var ! 25 refl)
@@ -108,30 +108,30 @@ module _ {M : Type 1} (𝓤 : URA M) (H : Heap 𝓤) (A : Atoms 𝓤) (W : Given
             sets ! (slice-of ! 15 33 refl refl refl) (init ! 13 refl (tt, (tt, (record { fits = rooms .1 .1 .1 .0 .0 .0 }, tt)))) $
             sets ! (ptr-of ! 31 refl refl) (init ! 11 refl (tt, tt)) $
             sets ! (slice-of ! 11 31 refl refl refl) (init ! 9 refl (tt, (tt, (record { fits = rooms .1 .1 .1 .1 .0 .0 .0 }, tt)))) $
-            calls ! fm (take-callee 𝓤 H A) (known .of-take) (i .a, ((I, ts), ((J, ms), ((C, i .row), ((L, i .hs), ((N, i .book), tt))))))
+            calls ! fm (take-callee 𝓤 H A) (known .of-take) (i .a, ((I, ts), ((J, ms), ((K, i .ps), ((L, i .hs), ((N, i .book), tt))))))
             (i .is, tt) tt refl
             (var ! 29 refl & var ! 39 refl & var ! 21 refl & var ! 17 refl & var ! 13 refl & var ! 9 refl & no-more !)
             (λ b-is. into ! (init ! 27 refl (stored W by-arrival b b-is .0)) $
             sets ! (ptr-of ! 33 refl refl) (init ! 7 refl (tt, tt)) $
             sets ! (slice-of ! 7 33 refl refl refl) (init ! 5 refl (tt, (tt, (record { fits = rooms .1 .1 .1 .0 .0 .0 }, tt)))) $
             move ! (3 ∷ []) $
-            calls-last ! fm (next-shown-callee 𝓤 H A) (known .of-next) (b, ((L, takeHops ts ms (i .a) (i .row) (i .hs)), tt)) (b-is, tt) tt
+            calls-last ! fm (next-shown-callee 𝓤 H A) (known .of-next) (b, ((L, takeHops ts ms (i .a) (i .ps) (i .hs)), tt)) (b-is, tt) tt
             refl
             (var ! 27 refl & var ! 5 refl & no-more !) (λ is. into-last ! (store ! 29 refl (stored W by-arrival (later i) is .0)) $
             move ! (1 ∷ 2 ∷ 3 ∷ []) $
             forget ! 5 refl $ forget ! 7 refl $ forget ! 9 refl $ forget ! 11 refl $ forget ! 13 refl $ forget ! 15 refl $
             forget ! 17 refl $ forget ! 19 refl $
             forget ! 21 refl $ forget ! 23 refl $ forget ! 25 refl $ forget ! 27 refl $
-            again ! Nearer At i (next i goes is) (nearer ts ms (i .a) (i .row) (i .hs) goes))))
+            again ! Nearer At i (next i goes is) (nearer ts ms (i .a) (i .ps) (i .hs) goes))))
             (λ stops.
             exec ! (𝓣 .C) (𝓣 .Λ) En t-3 (atRet En (Done-at self h)) $
             sets ! (of-opd ! (var ! 29 refl)) (init ! 43 refl (stored W by-arrival (i .a) (i .is) .0)) $ returns ! (look ! 43 refl) $
-            leaves ! (‵ (Views u32 I ts) ∷ ‵ (Holds u32 J ms) ∷ ‵ (Holds u16 C (i .row)) ∷ ‵ (Holds R L (i .hs)) ∷ ‵
+            leaves ! (‵ (Views u32 I ts) ∷ ‵ (Holds u32 J ms) ∷ ‵ (Holds Grid K (i .ps)) ∷ ‵ (Holds R L (i .hs)) ∷ ‵
             (Holds u16 N (i .book)) ∷ []) locals bs
             (vs (holds (by-arrival .word (i .a))) i (holds (vbool (isGoing (i .a))))) tt $
-            (let e : record { arrival = i .a; row = i .row; hops = i .hs; book = i .book } ≡ end = over ts ms (i .k) (i .a) (i .row)
+            (let e : record { arrival = i .a; pairs = i .ps; hops = i .hs; book = i .book } ≡ end = over ts ms (i .k) (i .a) (i .ps)
             (i .hs) (i .book) stops (i .to-end) in
-            rewrite ! 2 (λ (s : Settling). ‵ (Holds u16 C (s .row))) e refl $
+            rewrite ! 2 (λ (s : Settling). ‵ (Holds Grid K (s .pairs))) e refl $
             rewrite ! 3 (λ (s : Settling). ‵ (Holds R L (s .hops))) e refl $
             rewrite ! 4 (λ (s : Settling). ‵ (Holds u16 N (s .book))) e refl $
             check ! (subst (λ (s : Settling). Is Arr (s .arrival) (by-arrival .word (i .a) ∷ [])) e (i .is)) $ done !)))
@@ -144,12 +144,11 @@ module _ {M : Type 1} (𝓤 : URA M) (H : Heap 𝓤) (A : Atoms 𝓤) (W : Given
           (record {
             a = start;
             is = fit .0;
-            row = row₀;
+            ps = ps₀;
             hs = hs₀;
             book = book₀;
             k = ahead ts ms start;
-            to-end = at-start ts ms start row₀
-                hs₀ book₀;
+            to-end = at-start ts ms start ps₀ hs₀ book₀;
           }))
 
 pub settle-spec : {M : Type 1} → stated.statement M
@@ -162,8 +161,7 @@ settle-spec 𝓤 H 𝓜 𝓖 𝓡 =
       ap (λ es. es .0) e,
       ap (λ es. es .1 .0) e,
       ap (λ es. es .1 .1 .0) e,
-      ap
-          (λ es. es .1 .1 .1 .0) e,
+      ap (λ es. es .1 .1 .1 .0) e,
     ))
     #settle code.function (code.unfolded 𝓤 H 𝓜 𝓡)
     (λ h fit rooms _. walk 𝓤 H A (givenOf 𝓤 H 𝓜 𝓖) (h .0) (h .1 .0 .0) (h .1 .0 .1) (h .1 .1 .0 .0) (h .1 .1 .0 .1) (h .1 .1 .1 .0 .0)

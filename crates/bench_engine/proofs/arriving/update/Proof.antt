@@ -16,9 +16,6 @@ cast-s c = search needs
 cast-r : tie.Need-cast-r
 cast-r c = search needs
 
-set-row-requires : tie.Need-set-row-requires
-set-row-requires c κs = search needs
-
 add-requires : tie.Need-add-requires
 add-requires c κs = search needs
 
@@ -34,9 +31,9 @@ same-length-2 c = search needs
 returns-2 : tie.Need-returns-2
 unfolding finishedPairs finishedGauges
 returns-2 c =
-    let gauges = c .before .before in let add = gauges .before .before .before in let set-row = add .before .before .before in
-    let some = ne-eqb _ _ (set-row .before .before .before .before .if1 .left) in
-    (rw some (rw (add .add .ensures, set-row .set-row .ensures)), rw some (gauges .set-small-number .ensures))
+    let gauges = c .before .before in let add = gauges .before .before .before in
+    let some = ne-eqb _ _ (add .before .before .before .before .if1 .left) in
+    (rw some (add .add .ensures .1), rw some (gauges .set-small-number .ensures))
 
 pub update-spec : {M : Type 1} → statement M
 update-spec =
@@ -45,7 +42,6 @@ update-spec =
     returns
     cast-s
     cast-r
-    set-row-requires
     add-requires
     set-small-number-requires
     same-length

@@ -1,4 +1,4 @@
--- The answer and the lists are what the functions that make them ensure.
+-- The answer and the messages are what the functions that make them ensure.
 use borrow.Author.Needs.{needs}
 use Rattle.bench_engine.specs.Steps.{sentAs}
 use Rattle.bench_engine.proofs.sending.finished.Statement.{statement}
@@ -6,9 +6,6 @@ use Rattle.bench_engine.proofs.sending.finished.Tie as tie
 
 record-message-requires : tie.Need-record-message-requires
 record-message-requires c κs = search needs
-
-count-hop-requires : tie.Need-count-hop-requires
-count-hop-requires c κs = search needs
 
 recorded-requires : tie.Need-recorded-requires
 recorded-requires c κs = search needs
@@ -19,26 +16,12 @@ reply-requires c κs = search needs
 same-length : tie.Need-same-length
 same-length c = search needs
 
-same-length-2 : tie.Need-same-length-2
-same-length-2 c = search needs
-
 returns : tie.Need-returns
 unfolding sentAs
 returns c =
-    let recorded = c .before in let count-hop = recorded .before .before in (
-      rw (recorded .recorded .ensures, c .reply .ensures),
-      count-hop .before .before .before .before .record-message .ensures,
-      count-hop .count-hop .ensures,
-    )
+    let recorded = c .before in
+    (rw (recorded .recorded .ensures, c .reply .ensures), recorded .before .before .before .record-message .ensures)
 
 pub finished-spec : {M : Type 1} → statement M
 finished-spec =
-    tie.close
-    (tie.spec
-    record-message-requires
-    count-hop-requires
-    recorded-requires
-    reply-requires
-    same-length
-    same-length-2
-    returns)
+    tie.close (tie.spec record-message-requires recorded-requires reply-requires same-length returns)

@@ -1,13 +1,13 @@
 -- The loop's invariant: the first `at` places hold 0, and the book is as long as it was.
 use borrow.Author.Needs.{needs}
-use mathlib.Core.Path.{_≡_, refl, ap, _∙_}
+use mathlib.Core.Path.{_≡_, refl, sym, ap, _∙_}
 use mathlib.Core.Logic.{⊎-elim}
 use Prim.Native.Nat.{_-_, _≤_}
 use native.Mathlib.Numerals.{add-one}
 use native.Mathlib.Omega.{arith}
 use lib.ListN.{length, set, length-set}
+use lib.Seq.{set-out}
 use Rattle.bench_store.specs.Values.{filled}
-use Rattle.bench_store.proofs.Entries.{stored-past}
 use Rattle.bench_store.proofs.book.clear.Statement.{statement}
 use Rattle.bench_store.proofs.book.clear.Tie as tie
 
@@ -38,7 +38,7 @@ unfolding filled
 loop-again c =
     let loop = c .before .before .loop in
     let next : c .if1 .book ≡ set (loop .book) (loop .at) 0 =
-    ⊎-elim (λ w. w .1) (λ w. w .1 ∙ stored-past _ _ _ _ refl (w .0 .left)) (c .if1 .came) in
+    ⊎-elim (λ w. w .1) (λ w. w .1 ∙ sym (set-out _ _ _ (w .0 .left))) (c .if1 .came) in
     (search needs, rw (add-one (loop .at), ← loop .inv .1) next, ap length next ∙ length-set (loop .book) (loop .at) 0 ∙ loop .inv .2)
 
 same-length : tie.Need-same-length Inv-loop μ-loop

@@ -1,21 +1,29 @@
--- The count of a pair is changed in its array; where the array is missing or one is no unit nothing changes.
+-- The count of a pair is changed in its array; where the array is missing or one is no unit nothing changes, and n follows on the 0 read.
 use borrow.Author.Needs.{needs}
 use borrow.Author.Tests.{le-ltb, lt-ltb}
-use Rattle.bench_store.specs.Values.{addedIn, added, isPair}
+use mathlib.Core.Path.{_≡_, refl}
+use Prim.Native.Nat.{ℕ, _+_, _<_, _^_}
+use native.Mathlib.Omega.{arith}
+use Rattle.bench_store.specs.Values.{plus, countIn, addedIn, added, isPair}
 use Rattle.bench_store.proofs.counts.add.Statement.{statement}
 use Rattle.bench_store.proofs.counts.add.Tie as tie
 
+none-more : (n : ℕ) → n < 2 ^ 16 → n ≡ plus 0 n
+unfolding plus
+none-more n h = simp (lt-ltb (0 + n) 65536 (omega (arith, h))) (omega arith)
+
 returns : tie.Need-returns
-unfolding addedIn isPair
-returns c = simp (le-ltb _ _ (c .if1 .taken))
+unfolding countIn addedIn isPair
+returns c = simp (le-ltb _ _ (c .if1 .taken)) (none-more _ (c .before .fits .n .fits), refl)
 
 returns-2 : tie.Need-returns-2
-unfolding addedIn isPair
-returns-2 c = simp (lt-ltb _ _ (c .before .if1 .left), le-ltb _ _ (c .if2 .taken))
+unfolding countIn addedIn isPair
+returns-2 c = simp (lt-ltb _ _ (c .before .if1 .left), le-ltb _ _ (c .if2 .taken)) (none-more _ (c .before .before .fits .n .fits), refl)
 
 returns-3 : tie.Need-returns-3
-unfolding addedIn isPair
+unfolding countIn addedIn isPair
 returns-3 c = simp (lt-ltb _ _ (c .before .before .if1 .left), lt-ltb _ _ (c .before .if2 .left), le-ltb _ _ (c .if3 .taken))
+    (none-more _ (c .before .before .before .fits .n .fits), refl)
 
 mul-plus : tie.Need-mul-plus
 mul-plus c = search needs
@@ -60,11 +68,11 @@ same-length : tie.Need-same-length
 same-length c = search needs
 
 returns-4 : tie.Need-returns-4
-unfolding addedIn added isPair
+unfolding countIn addedIn added isPair
 returns-4 c =
     let test = c .before .before in
     simp (lt-ltb _ _ (test .before .before .if1 .left), lt-ltb _ _ (test .before .if2 .left), lt-ltb _ _ (test .if3 .left))
-    (rw (c .plus .ensures))
+    (c .plus .ensures, rw (c .plus .ensures))
 
 pub add-spec : {M : Type 1} → statement M
 add-spec =

@@ -1,62 +1,54 @@
--- The count of a pair is raised; where one is no unit the counts stay.
+-- The row is copied out of the array, and the count in it raised; where one is no unit there are zeros.
 use borrow.Author.Needs.{needs}
 use borrow.Author.Tests.{le-ltb, lt-ltb}
-use Rattle.bench_store.specs.Values.{raised, added, isPair}
+use Rattle.bench_store.specs.Values.{raisedRow, added, isPair}
 use Rattle.bench_store.proofs.counts.raised.Statement.{statement}
 use Rattle.bench_store.proofs.counts.raised.Tie as tie
+
+returns : tie.Need-returns
+unfolding raisedRow isPair
+returns c = simp (le-ltb _ _ (c .if1 .taken))
+
+returns-2 : tie.Need-returns-2
+unfolding raisedRow isPair
+returns-2 c = simp (lt-ltb _ _ (c .before .if1 .left), le-ltb _ _ (c .if2 .taken))
+
+mul-row : tie.Need-mul-row
+mul-row c = search needs
+
+array-copy-out-row : tie.Need-array-copy-out-row
+array-copy-out-row c = search needs
 
 mul-plus : tie.Need-mul-plus
 mul-plus c = search needs
 
-mul-plus-2 : tie.Need-mul-plus-2
-mul-plus-2 c = search needs
-
-index-1-plus : tie.Need-index-1-plus
-index-1-plus c = search needs
-
-index-2-plus : tie.Need-index-2-plus
-index-2-plus c = search needs
+array-read-plus : tie.Need-array-read-plus
+array-read-plus c = search needs
 
 plus-requires : tie.Need-plus-requires
 plus-requires c κs = search needs
 
-mul-next : tie.Need-mul-next
-mul-next c = search needs
+mul-row-2 : tie.Need-mul-row-2
+mul-row-2 c = search needs
 
-mul-next-2 : tie.Need-mul-next-2
-mul-next-2 c = search needs
-
-index-1-next : tie.Need-index-1-next
-index-1-next c = search needs
-
-index-2-next : tie.Need-index-2-next
-index-2-next c = search needs
-
-returns : tie.Need-returns
-unfolding raised added isPair
-returns c = simp (lt-ltb _ _ (c .before .before .before .if1 .taken), lt-ltb _ _ (c .before .before .if2 .taken)) (rw (c .plus .ensures))
-
-returns-2 : tie.Need-returns-2
-unfolding raised isPair
-returns-2 c = simp (lt-ltb _ _ (c .before .if1 .taken), le-ltb _ _ (c .if2 .left))
+array-write-row : tie.Need-array-write-row
+array-write-row c = search needs
 
 returns-3 : tie.Need-returns-3
-unfolding raised isPair
-returns-3 c = simp (le-ltb _ _ (c .if1 .left))
+unfolding raisedRow added isPair
+returns-3 c = simp (lt-ltb _ _ (c .before .before .before .if1 .left), lt-ltb _ _ (c .before .before .if2 .left)) (rw (c .plus .ensures))
 
 pub raised-spec : {M : Type 1} → statement M
 raised-spec =
     tie.close
     (tie.spec
-    mul-plus
-    mul-plus-2
-    index-1-plus
-    index-2-plus
-    plus-requires
-    mul-next
-    mul-next-2
-    index-1-next
-    index-2-next
     returns
     returns-2
+    mul-row
+    array-copy-out-row
+    mul-plus
+    array-read-plus
+    plus-requires
+    mul-row-2
+    array-write-row
     returns-3)

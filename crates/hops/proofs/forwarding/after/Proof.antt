@@ -1,7 +1,7 @@
 -- `after` leaves out the lowest child and counts its hop.
 use mathlib.Core.Path.{ap, _∙_}
 use Rattle.sets.specs.Sets.{excluding}
-use Rattle.hops.specs.Access.{withCounts, withoutCounts, afterNext}
+use Rattle.hops.specs.Access.{withPairs, withoutPairs, afterNext}
 use borrow.Author.Needs.{needs}
 use Rattle.hops.proofs.forwarding.after.Statement.{statement}
 use Rattle.hops.proofs.forwarding.after.Tie as tie
@@ -16,7 +16,7 @@ plus-requires : tie.Need-plus-requires
 plus-requires c κs = search needs
 
 returns : tie.Need-returns
-unfolding withCounts withoutCounts afterNext
+unfolding withPairs withoutPairs afterNext
 returns c =
     let o = c .before .before .before .args .o in
     λ i. record {

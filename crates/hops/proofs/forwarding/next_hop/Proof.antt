@@ -4,10 +4,9 @@ use mathlib.Core.List.{List}
 use Prim.Native.Nat.{ℕ, _≤_}
 use native.Mathlib.Omega.{arith}
 use lib.Count.{trailing-le}
-use lib.ListN.{getD}
 use Rattle.sets.specs.Sets.{lowest}
-use Rattle.bench_store.specs.Values.{plus, added}
-use Rattle.hops.specs.Access.{withCounts, nextHop, afterNext}
+use Rattle.bench_store.specs.Values.{plus, countIn, addedIn}
+use Rattle.hops.specs.Access.{withPairs, nextHop, afterNext}
 use borrow.Author.Needs.{needs}
 use Rattle.hops.proofs.forwarding.next_hop.Statement.{statement}
 use Rattle.hops.proofs.forwarding.next_hop.Tie as tie
@@ -15,12 +14,15 @@ use Rattle.hops.proofs.forwarding.next_hop.Tie as tie
 next-child-requires : tie.Need-next-child-requires
 next-child-requires c κs = search needs
 
-count-at-requires : tie.Need-count-at-requires
-count-at-requires c κs = search needs
+cast-add : tie.Need-cast-add
+cast-add c = search needs
 
-cast-t7 : tie.Need-cast-t7
+add-requires : tie.Need-add-requires
+add-requires c κs = search needs
+
+cast-t8 : tie.Need-cast-t8
 unfolding lowest
-cast-t7 c =
+cast-t8 c =
     let child = c .before .before .before .before .next-child in
     let few : child .result ≤ 32 = rw (child .ensures) (trailing-le 32 _) in
     omega arith
@@ -29,21 +31,21 @@ same-length : tie.Need-same-length
 same-length c = search needs
 
 returns : tie.Need-returns
-unfolding withCounts nextHop afterNext
+unfolding withPairs nextHop afterNext
 returns c =
-    let a = c .before .before .before .before .before .before .args in
+    let a = c .before .before .before .before .before .args in
     let child = c .before .before .before .before .next-child .ensures in
-    let count = c .before .before .count-at .ensures in
-    let counts : List ℕ = a .counts .now in (
+    let count = c .before .add .ensures in
+    let pairs : List (List (List ℕ)) = a .pairs .now in (
       λ i. record {
         sender = a .o .sender;
         receiver = child i;
-        sequence = (count .0 ∙ ap (λ (k : ℕ). plus (getD counts k 0) 1) child) i;
+        sequence = (count .0 ∙ ap (λ (k : ℕ). plus (countIn pairs 0 (a .o .sender) k) 1) child) i;
         message = a .o .message;
         state = 0;
       },
-      count .1 ∙ ap (λ (k : ℕ). added counts k 1) child,
+      count .1 ∙ ap (λ (k : ℕ). addedIn pairs 0 (a .o .sender) k 1) child,
     )
 
 pub next-hop-spec : {M : Type 1} → statement M
-next-hop-spec = tie.close (tie.spec next-child-requires count-at-requires cast-t7 same-length returns)
+next-hop-spec = tie.close (tie.spec next-child-requires cast-add add-requires cast-t8 same-length returns)

@@ -30,6 +30,9 @@ unit-count-requires c κs = search needs
 loop-holds : tie.Need-loop-holds Inv-loop μ-loop
 loop-holds c = (search needs, λ t ms ps small logs back place left w. w)
 
+cast-loop : tie.Need-cast-loop Inv-loop μ-loop
+cast-loop c = search needs
+
 cast-if1 : tie.Need-cast-if1 Inv-loop μ-loop
 cast-if1 c = search needs
 
@@ -77,6 +80,7 @@ put-logs-spec =
     μ-loop
     unit-count-requires
     loop-holds
+    cast-loop
     cast-if1
     same-length
     returns

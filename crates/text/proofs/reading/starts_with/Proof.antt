@@ -2,9 +2,10 @@
 use borrow.Author.Needs.{needs}
 use mathlib.Core.Path.{_≡_, refl, sym, _∙_}
 use Prim.Native.Nat.{_-_, _≤_}
+use native.Mathlib.Omega.{arith}
 use lib.ListN.{length, drop}
 use Rattle.text.specs.Text.{startsWith}
-use Rattle.text.proofs.Places.{key-end, text-end, bytes-differ, bytes-same}
+use Rattle.text.proofs.Places.{key-end, text-short, bytes-differ, bytes-same}
 use Rattle.text.proofs.reading.starts_with.Statement.{statement}
 use Rattle.text.proofs.reading.starts_with.Tie as tie
 
@@ -14,11 +15,11 @@ Inv-loop text key at₀ at = (at ≤ length key) × (startsWith key text ≡ sta
 abbrev μ-loop : tie.MeasureT-loop
 μ-loop text key at₀ at = length key - at
 
+returns : tie.Need-returns Inv-loop μ-loop
+returns c = sym (text-short _ _ (c .if1 .taken))
+
 loop-holds : tie.Need-loop-holds Inv-loop μ-loop
 loop-holds c = (search needs, refl)
-
-returns : tie.Need-returns Inv-loop μ-loop
-returns c = sym (c .before .before .loop .inv .1 ∙ text-end _ _ _ (c .before .loop-test .taken) (c .if1 .taken))
 
 shared-slice-read-if2 : tie.Need-shared-slice-read-if2 Inv-loop μ-loop
 shared-slice-read-if2 c = search needs
@@ -28,8 +29,8 @@ shared-slice-read-if2-2 c = search needs
 
 returns-2 : tie.Need-returns-2 Inv-loop μ-loop
 returns-2 c =
-    let turn = c .before .before .before .before in
-    sym (turn .before .loop .inv .1 ∙ bytes-differ _ _ _ (turn .loop-test .taken) (c .before .before .before .if1 .left) (c .if2 .taken))
+    let turn = c .before .before .before in
+    sym (turn .before .loop .inv .1 ∙ bytes-differ _ _ _ (turn .loop-test .taken) (omega arith) (c .if2 .taken))
 
 add-at : tie.Need-add-at Inv-loop μ-loop
 add-at c = search needs
@@ -39,8 +40,8 @@ loop-less c = search needs
 
 loop-again : tie.Need-loop-again Inv-loop μ-loop
 loop-again c =
-    let turn = c .before .before .before .before in
-    (search needs, turn .before .loop .inv .1 ∙ bytes-same _ _ _ (turn .loop-test .taken) (c .before .before .before .if1 .left) (c .if2 .left))
+    let turn = c .before .before .before in
+    (search needs, turn .before .loop .inv .1 ∙ bytes-same _ _ _ (turn .loop-test .taken) (omega arith) (c .if2 .left))
 
 returns-3 : tie.Need-returns-3 Inv-loop μ-loop
 returns-3 c = sym (c .before .loop .inv .1 ∙ key-end _ _ (c .before .loop .at) (c .loop-test .left))
@@ -51,8 +52,8 @@ starts-with-spec =
     (tie.spec
     Inv-loop
     μ-loop
-    loop-holds
     returns
+    loop-holds
     shared-slice-read-if2
     shared-slice-read-if2-2
     returns-2

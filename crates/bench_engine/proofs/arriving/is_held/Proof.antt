@@ -1,8 +1,8 @@
 -- The number compared is the rule's.
 use borrow.Author.Needs.{needs}
 use Rattle.bench_promises.specs.Machine.{isNext}
-use Rattle.bench_engine.proofs.arriving.is_next.Statement.{statement}
-use Rattle.bench_engine.proofs.arriving.is_next.Tie as tie
+use Rattle.bench_engine.proofs.arriving.is_held.Statement.{statement}
+use Rattle.bench_engine.proofs.arriving.is_held.Tie as tie
 
 plus-requires : tie.Need-plus-requires
 plus-requires c κs = search needs
@@ -11,5 +11,5 @@ returns : tie.Need-returns
 unfolding isNext
 returns c = rw (c .before .plus .ensures)
 
-pub is-next-spec : {M : Type 1} → statement M
-is-next-spec = tie.close (tie.spec plus-requires returns)
+pub is-held-spec : {M : Type 1} → statement M
+is-held-spec = tie.close (tie.spec plus-requires returns)

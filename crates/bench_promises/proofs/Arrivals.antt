@@ -1,16 +1,16 @@
 -- An arrival computes what the rule says: from the definitions of specs/Machine.antt to the promise. Assumes nothing.
 use mathlib.Core.Path.{_≡_, refl, sym, ap, subst, _∙_}
 use mathlib.Core.Logic.{⊎-elim}
-use mathlib.Core.Bool.{Bool, true, false, not, cond}
+use mathlib.Core.Bool.{Bool, true, false, not}
 use mathlib.Core.List.{List, [], _∷_, _++_, append-nil}
 use Prim.Native.Nat.{ℕ, zero, suc, _+_, _-_, _≤_, _<_}
 use native.Mathlib.Nat.{le-trans}
 use native.Mathlib.Numerals.{add-one}
 use native.Mathlib.Omega.{arith}
-use borrow.Author.Tests.{lt-ltb, le-ltb, lt-leb, le-leb, leb-true, leb-false, ne-eqb, eqb-true, eqb-false}
+use borrow.Author.Tests.{le-ltb, lt-leb, le-leb, leb-true, leb-false, ne-eqb, eqb-true, eqb-false}
 use lib.Dec.{leb, eqb}
 use lib.ListN.{length, getD, set}
-use Rattle.sets.proofs.Bools.{either, clash, cond-true, cond-false}
+use Rattle.sets.proofs.Bools.{either, clash}
 use Rattle.layout.specs.Tables.{tabulate}
 use Rattle.model.specs.declared.Hop.{Hop}
 use Rattle.model.specs.declared.Message.{Message}
@@ -19,7 +19,7 @@ use Rattle.model.specs.Network.{pairTaken}
 use Rattle.model.specs.Rules.{Repeat, Outcome, outcome, refuse, refused, answerOf, leftOf, tally, settle, hold, arrive, routeTotal}
 use Rattle.model.specs.Claims.{Limits}
 use Rattle.model.proofs.Hops.{length-state, count-length}
-use Rattle.model.proofs.Sequences.{Numbered, Next, own-pair, out-untaken}
+use Rattle.model.proofs.Sequences.{Numbered, own-pair, out-untaken}
 use Rattle.model.proofs.Idle.{Idle}
 use Rattle.model.proofs.Sound.{Forest, sound-held}
 use Rattle.model.proofs.Runs.{Valid}

@@ -10,7 +10,7 @@ use borrow.Author.Tests.{ltb-false, leb-false, le-ltb, eq-eqb, ne-eqb}
 use lib.Dec.{ltb, leb, eqb}
 use lib.ListN.{length, set}
 use Rattle.sets.specs.Sets.{size}
-use Rattle.sets.proofs.Bools.{clash, cond-true}
+use Rattle.sets.proofs.Bools.{clash}
 use Rattle.sets.proofs.Laws.{member-below, collect-below, size-below, size-positive}
 use Rattle.forest.specs.Forest.{route, routeSize}
 use Rattle.model.specs.declared.Hop.{Hop}

@@ -15,7 +15,7 @@ use Rattle.sets.proofs.Bools.{and-both, cond-true, cond-false}
 use Rattle.model.specs.declared.Hop.{Hop}
 use Rattle.model.specs.declared.Message.{Message}
 use Rattle.model.specs.Network.{Plan, groupOf, routeOf, Network, network, noHop, messageAt, hopAt, messagesOf, hopsOf, logOf, isTaken}
-use Rattle.model.specs.Network.{setState, countHops, pairCount, pairTaken}
+use Rattle.model.specs.Network.{setState, countHops, pairTaken}
 use Rattle.model.specs.Rules.{Outcome, outcome, childrenOn, forward, logged, takeHop, nextHeld, tally, settle}
 use Rattle.model.proofs.Sequences.{Numbered, Next}
 use Rattle.model.proofs.Idle.{Idle}

@@ -4,10 +4,10 @@ use Prim.Native.Nat.{ℕ, zero, suc, _-_, _*_}
 use mathlib.Core.Bool.{Bool, not, _&&_, _||_, cond}
 use mathlib.Core.List.{List}
 use lib.Dec.{ltb, leb, eqb}
-use lib.ListN.{length, set, take, drop, replicate}
+use lib.ListN.{length, take, drop, replicate}
 use Rattle.sets.specs.Sets.{member, intersection, size}
 use Rattle.model.specs.declared.Hop.{Hop}
-use Rattle.model.specs.Network.{noHop, hopAt, setState, isOut, isHeld}
+use Rattle.model.specs.Network.{noHop, hopAt, setState, isOut}
 use Rattle.model.specs.Rules.{refuse}
 use Rattle.forest_tables.specs.Computed.{tablesOf, groupIn, routeIn, primaryIn, childrenIn, unitCount, groupCount}
 use Rattle.bench_store.specs.Values.{plus, byte, filled, columnAt, withColumn, noCounts, countIn, addedIn, logged}

@@ -44,8 +44,7 @@ nextHop f =
     record {
       sender = f .sender;
       receiver = child;
-      sequence = plus (countIn (f .pairs) 0
-          (f .sender) child) 1;
+      sequence = plus (countIn (f .pairs) 0 (f .sender) child) 1;
       message = f .message;
       state = 0;
     }

@@ -1,6 +1,5 @@
 // The hops of a bench: a list of records lent by the caller. Every access to a record goes through `read`, `message_at`, `state_at`,
-// `set_state`,
-// `append` and `clear`. Every function is total: a place past the list reads as zeros, and nothing is stored there.
+// `set_state`, `append` and `clear`. Every function is total: a place past the list reads as zeros, and nothing is stored there.
 
 mod forwarding;
 
@@ -33,7 +32,7 @@ pub fn message_at(hops: &[model::Hop], at: usize) -> u16
     0
 }
 
-// The state of the record at a place, alone, for the same reason.
+// The state of the record at a place, alone.
 pub fn state_at(hops: &[model::Hop], at: usize) -> u8
     ensures { λ r. ⌜ r ≡ hopAt (now (hops .entry)) at .state ⌝ }
 {

@@ -318,43 +318,6 @@ forward-count-apart a b v m cs hs apart = omega (
   sum-none (λ c. bit (eqb v a && eqb c b)) cs (λ c i. ap bit (new-pair a b v c m [] (apart c i))),
 )
 
-pub forward-count-receiver : (b v m : ℕ) (cs : List ℕ) (hs : List Hop) → (In b cs → ⊥) → pairCount v b (forward v m cs hs) ≡ pairCount v b hs
-unfolding Apart
-forward-count-receiver b v m cs hs none =
-    forward-count-apart v b v m cs hs (λ c i e f. none (subst (λ (x : ℕ). In x cs) (sym f) i))
-
--- numbers in rising order are there once, if they pass
-rising-once : (k i : ℕ) (test : ℕ → Bool) (b : ℕ) → i ≤ b → b < i + k → sumOf (λ c. bit (eqb c b)) (rising k i test) ≡ bit (test b)
-unfolding rising sumOf push bit
-rising-once zero i test b l m = absurd (omega arith)
-rising-once (suc k) i test b l m = by-cases (ℕ-discrete b i)
-    (λ e. own (test i) (rising k (suc i) test) (ap bit (eq-eqb i b (sym e))) (sum-none f (rising k (suc i) test) (λ c p.
-    ap bit (ne-eqb c b (λ d. absurd (omega (arith, rising-in k (suc i) test c p .0))))))
-    ∙ ap (λ (x : ℕ). bit (test x)) (sym e))
-    (λ n. other (test i) (rising k (suc i) test) (ap bit (ne-eqb i b (λ e. n (sym e)))) ∙ rising-once k (suc i) test b (omega arith) (omega arith))
-  where
-    f : ℕ → ℕ
-    f c = bit (eqb c b)
-
-    own : (t : Bool) (l : List ℕ) → f i ≡ 1 → sumOf f l ≡ 0 → sumOf f (push t i l) ≡ bit t
-    own true l p q = omega (arith, p, q)
-    own false l p q = q
-
-    other : (t : Bool) (l : List ℕ) → f i ≡ 0 → sumOf f (push t i l) ≡ sumOf f l
-    other true l p = omega (arith, p)
-    other false l p = refl
-
-pub forward-count-rising : (b v m k i : ℕ) (test : ℕ → Bool) (hs : List Hop) → i ≤ b → b < i + k
-    → pairCount v b (forward v m (rising k i test) hs) ≡ pairCount v b hs + bit (test b)
-forward-count-rising b v m k i test hs l u =
-    forward-count v b v m (rising k i test) hs ∙ ap (λ (n : ℕ). pairCount v b hs + n)
-    (ap (λ (x : Bool). sumOf (λ c. bit (x && eqb c b)) (rising k i test)) (eq-eqb v v refl) ∙ rising-once k i test b l u)
-
-pub forward-count-outside : (b v m k i : ℕ) (test : ℕ → Bool) (hs : List Hop) → (b < i) ⊎ (i + k ≤ b)
-    → pairCount v b (forward v m (rising k i test) hs) ≡ pairCount v b hs
-forward-count-outside b v m k i test hs out = forward-count-receiver b v m (rising k i test) hs (λ p.
-    let r = rising-in k i test b p in ⊎-elim (λ l. absurd (omega arith)) (λ l. absurd (omega arith)) out)
-
 -- ---- the start of an arrival
 
 -- hop j of the pair waits: the pair's older hops are taken where its sequence number is one more than the number taken, and only there

@@ -114,8 +114,8 @@ fn entry(
     upper(count)
 }
 
-// The list of units, groups and parents. The columns begin so that number i has place i % 24 in a column of groups, and place (i + 24) % 32 in
-// one of units.
+// The list of units, groups and parents. The columns begin so that number i has place i % 24 in a column of groups, and place
+// (i + 24) % 32 in one of units.
 pub fn of(
     units: usize,
     groups: [u32; Limits::GROUPS],

@@ -35,17 +35,18 @@ enum {
  * Answers the bytes printed and the sum of the copies taken. Refused: 1. A file that is refused prints its line `refused=`. */
 void scrollcairn_run(const uint8_t *file, size_t file_length, uint8_t *out, size_t out_length, uint64_t answer[3]);
 
-/* Lays out a forest for `units` units and the first `count` groups; a group is a set of units, the bit worth 2 to the power u standing for
- * unit u. Refused: 5, 4, 6, with line 0. */
+/* Lays out a forest for `units` units and the first `count` groups; a group is the sum of 2^u
+ * over its units u. Refused: 5, 4, 6, with line 0. */
 void scrollcairn_build(size_t units, const uint32_t groups[24], size_t count, uint8_t parents[32], uint64_t answer[3]);
 
-/* Checks a drawn forest; an accepted one is left in `parents`, with SCROLLCAIRN_ROOT at every place past the units.
+/* Checks a drawn forest; an accepted one is left in `parents`, with SCROLLCAIRN_ROOT from place `units` on.
  * Refused: 5, 4, 6, with line 0; 10; 11, with the group. */
-void scrollcairn_check(size_t units, const uint32_t groups[24], size_t count, const uint8_t drawn[32], uint8_t parents[32], uint64_t answer[3]);
+void scrollcairn_check(size_t units, const uint32_t groups[24], size_t count, const uint8_t drawn[32], uint8_t parents[32],
+                       uint64_t answer[3]);
 
-/* Reads a bench file. `counts` gets the units, the groups that count, 1 for `parents=build` (else 0), and the events; `parents` the drawn forest;
- * `events`, of at least SCROLLCAIRN_EVENTS numbers, three numbers for each event. Answers how many numbers were written to `events`, and the line
- * of `parents=`. Refused: 1; 2 to 9, with the line. */
+/* Reads a bench file. `counts` gets the units, the groups that count, 1 for `parents=build` (else 0), and the events; `parents` the drawn
+ * forest; `events`, of at least SCROLLCAIRN_EVENTS numbers, three numbers for each event. Answers how many numbers were written to
+ * `events`, and the line of `parents=`. Refused: 1; 2 to 9, and at which line. */
 void scrollcairn_read(const uint8_t *file, size_t file_length, uint16_t *events, size_t events_length,
                       uint32_t groups[24], uint8_t parents[32], uint16_t counts[4], uint64_t answer[3]);
 
@@ -54,9 +55,9 @@ void scrollcairn_read(const uint8_t *file, size_t file_length, uint16_t *events,
 void scrollcairn_write(const uint32_t groups[24], const uint8_t parents[32], const uint16_t counts[4],
                        const uint16_t *events, size_t events_length, uint8_t *out, size_t out_length, uint64_t answer[3]);
 
-/* Makes a fresh bench on a forest, lent the first `fresh_hops` of 2,008 hop records and the first `fresh_book` of `book`, and runs a list of calls on
- * it. A call is six numbers: kind, a, b, c, and how many hop records and log numbers it is lent (all there are where that is more). Fewer than
- * six numbers at the end are no call.
+/* Makes a fresh bench on a forest, lent the first `fresh_hops` of 2,008 hop records and the first `fresh_book` of `book`, and runs a list
+ * of calls on it. A call is six numbers: kind, a, b, c, and how many hop records and log numbers it is lent (all there are where that is
+ * more). Fewer than six numbers at the end are no call.
  *
  *   kind 0  send: source a, group b, word c        kind 3  the length of the log of unit a
  *   kind 1  arrive: hop a                          any other kind: rest
@@ -68,17 +69,18 @@ void scrollcairn_write(const uint32_t groups[24], const uint8_t parents[32], con
  *   1  sent: the message          5  the log's length
  *   2  repeat     3  held         6  rest: 1 for yes, 0 for no
  *
- * `hops` gets five numbers for each of the 2,008 records, as they are left: sender, receiver, sequence number, message, state (0 out, 1 held,
- * 2 taken). The last eight, which no call uses, held 9, 9, 9, 9, 9 before. `bench`, the one list of 32-bit numbers, gets the hops made, the hops
- * taken, the messages sent, the sum of their way sizes; the length of each unit's log (32); the sources, groups and words of the messages (200 each,
- * 0 past the messages sent); for each ordered pair of units, sender by receiver, the hops made (1,024), and the hops taken (1,024). `book` is the
- * log book itself.
+ * `hops` gets five numbers for each of the 2,008 records, as they are left: sender, receiver, number in sequence, message, state (0 out,
+ * 1 held, 2 taken). The last eight, which no call uses, held 9, 9, 9, 9, 9 before. `bench`, the one list of 32-bit numbers, gets the hops
+ * made, the hops taken, the messages sent, the sum of their way sizes; the length of each unit's log (32); the sources, groups and words
+ * of the messages (200 each, 0 past the messages sent); by sender and receiver, the hops made (1,024), and the hops taken (1,024). `book`
+ * is the log book itself.
  *
- * Answers how many calls were run, and how many numbers `replies` got. Refused, in this order: 1 with 1, where `hops`, `bench` or `replies` is
- * shorter than SCROLLCAIRN_HOP_NUMBERS, SCROLLCAIRN_BENCH_NUMBERS, or SCROLLCAIRN_REPLY_NUMBERS for each call; 5, 4, 6, 10, 11 as
- * scrollcairn_check; 1 with 0, where the fresh bench is lent too short a list. */
-void scrollcairn_calls(size_t units, const uint32_t groups[24], size_t count, const uint8_t parents[32], size_t fresh_hops, size_t fresh_book,
-                       const uint16_t *calls, size_t calls_length, uint16_t *book, size_t book_length, uint16_t *hops, size_t hops_length,
+ * Answers how many calls were run, and how many numbers `replies` got. Refused, in this order: 1 with 1, where `hops`, `bench` or
+ * `replies` is shorter than SCROLLCAIRN_HOP_NUMBERS, SCROLLCAIRN_BENCH_NUMBERS, or SCROLLCAIRN_REPLY_NUMBERS for each call; 5, 4, 6, 10,
+ * 11 as scrollcairn_check; 1 with 0, where a list lent to the fresh bench is too short. */
+void scrollcairn_calls(size_t units, const uint32_t groups[24], size_t count, const uint8_t parents[32],
+                       size_t fresh_hops, size_t fresh_book, const uint16_t *calls, size_t calls_length,
+                       uint16_t *book, size_t book_length, uint16_t *hops, size_t hops_length,
                        uint32_t *bench, size_t bench_length, uint16_t *replies, size_t replies_length, uint64_t answer[3]);
 
 #ifdef __cplusplus

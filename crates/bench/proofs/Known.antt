@@ -101,7 +101,8 @@ module _ {M : Type 1} (𝓤 : URA M) (H : Heap 𝓤) (A : Atoms 𝓤) where
 
   abbrev pub after-send-callee : Callee 𝓤 H A
   after-send-callee =
-      by-rule 𝓤 H A (value B by-bench ∷ value Told.the-row by-told ∷ value Messages by-messages ∷ value Pairs by-pairs ∷ []) Sent.the-row
+      by-rule 𝓤 H A (value B by-bench ∷ value Told.the-row by-told ∷ value Messages by-messages ∷
+      value Pairs by-pairs ∷ []) Sent.the-row
       by-sent
       (λ d. sentWith (d .0) (d .1 .0) (d .1 .1 .0) (d .1 .1 .1 .0))
 
@@ -118,7 +119,8 @@ module _ {M : Type 1} (𝓤 : URA M) (H : Heap 𝓤) (A : Atoms 𝓤) where
       (λ d. cond (d .0) (d .1 .0) (d .1 .1 .0))
 
   abbrev pub is-short-callee : Callee 𝓤 H A
-  is-short-callee = by-rule 𝓤 H A (value usize (by-uint w64) ∷ value usize (by-uint w64) ∷ []) bool by-bool (λ d. isShort (d .0) (d .1 .0))
+  is-short-callee = by-rule 𝓤 H A (value usize (by-uint w64) ∷ value usize (by-uint w64) ∷ []) bool by-bool
+      (λ d. isShort (d .0) (d .1 .0))
 
   abbrev pub book-clear-callee : Callee 𝓤 H A
   book-clear-callee = stating 𝓤 H A 1 (lent 0 tt u16 ∷ value usize (by-uint w64) ∷ []) unit by-unit the-list (λ d. tt)
@@ -126,28 +128,32 @@ module _ {M : Type 1} (𝓤 : URA M) (H : Heap 𝓤) (A : Atoms 𝓤) where
 
   abbrev pub begun-callee : Callee 𝓤 H A
   begun-callee =
-      by-rule 𝓤 H A (value bool by-bool ∷ value usize (by-uint w64) ∷ value Groups by-groups ∷ value usize (by-uint w64) ∷ value Parents
+      by-rule 𝓤 H A (value bool by-bool ∷ value usize (by-uint w64) ∷ value Groups by-groups ∷
+      value usize (by-uint w64) ∷ value Parents
       by-parents ∷ [])
       Fresh.the-row by-fresh (λ d. freshWith (d .0) (d .1 .0) (d .1 .1 .1 .0) (d .1 .1 .0) (d .1 .1 .1 .1 .0))
 
   -- ---- the calls
   abbrev pub fresh-callee : RelationalCallee 𝓤 H A
   fresh-callee =
-      promising 𝓤 H A 2 (value usize (by-uint w64) ∷ value Groups by-groups ∷ value usize (by-uint w64) ∷ value Parents by-parents ∷ lent 0
+      promising 𝓤 H A 2 (value usize (by-uint w64) ∷ value Groups by-groups ∷ value usize (by-uint w64) ∷
+      value Parents by-parents ∷ lent 0
       tt R ∷ lent 1 tt u16 ∷ [])
       Fresh.the-row by-fresh (λ d r es. FreshPromise (d .0) (d .1 .1 .0) (d .1 .0) (d .1 .1 .1 .0) (d .1 .1 .1 .1 .0) (d .1 .1 .1 .1 .1 .0)
       (r .reply) (listsOf (r .bench)) (es .0) (es .1 .0))
 
   abbrev pub send-callee : RelationalCallee 𝓤 H A
   send-callee =
-      promising 𝓤 H A 1 (value B by-bench ∷ value u16 (by-uint w16) ∷ value u16 (by-uint w16) ∷ value u16 (by-uint w16) ∷ lent 0 tt R ∷ [])
+      promising 𝓤 H A 1 (value B by-bench ∷ value u16 (by-uint w16) ∷ value u16 (by-uint w16) ∷
+      value u16 (by-uint w16) ∷ lent 0 tt R ∷ [])
       Sent.the-row by-sent
       (λ d r es. SendPromise (listsOf (d .0)) (d .1 .0) (d .1 .1 .0) (d .1 .1 .1 .0) (d .1 .1 .1 .1 .0) (r .reply) (listsOf (r .bench))
       (es .0))
 
   abbrev pub arrive-callee : RelationalCallee 𝓤 H A
   arrive-callee =
-      promising 𝓤 H A 2 (value B by-bench ∷ value u16 (by-uint w16) ∷ lent 0 tt R ∷ lent 1 tt u16 ∷ []) Arrived.the-row by-arrived
+      promising 𝓤 H A 2 (value B by-bench ∷ value u16 (by-uint w16) ∷ lent 0 tt R ∷ lent 1 tt u16 ∷ [])
+      Arrived.the-row by-arrived
       (λ d r es. ArrivePromise (listsOf (d .0)) (d .1 .0) (d .1 .1 .0) (d .1 .1 .1 .0) (r .reply) (listsOf (r .bench)) (es .0) (es .1 .0))
 
   abbrev pub rest-callee : RelationalCallee 𝓤 H A

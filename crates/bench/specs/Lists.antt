@@ -27,10 +27,11 @@ withLists b t ms ps gs = record { totals = t; tables = b .tables; messages = ms;
 unfoldable pub sentWith : Bench → SentLists → (messages : List ℕ) → (pairs : List (List (List ℕ))) → Sent
 sentWith b told ms ps = record { bench = withLists b (told .totals) ms ps (b .gauges); reply = told .reply }
 
-unfoldable pub arrivedWith : Bench → ArrivedLists → (messages : List ℕ) → (pairs : List (List (List ℕ))) → (gauges : List ℕ) → Arrived
+unfoldable pub arrivedWith : Bench → ArrivedLists → (messages : List ℕ) → (pairs : List (List (List ℕ)))
+    → (gauges : List ℕ) → Arrived
 arrivedWith b told ms ps gs = record { bench = withLists b (told .totals) ms ps gs; reply = told .reply }
 
--- no messages and no hops
+-- without messages and hops
 unfoldable pub emptyBench : (units count : ℕ) (groups parents : List ℕ) → Bench
 emptyBench n c gs ps = record {
   totals = record { made = 0; taken = 0; sent = 0; routed = 0 };

@@ -15,7 +15,8 @@ use forest_tables::Tables;
 ghost use mathlib.Core.Path.{_≡_};
 ghost use mathlib.Core.Bool.{cond};
 ghost use Rattle.bench_promises.specs.Machine.{isShort};
-ghost use Rattle.bench_promises.specs.Promises.{FreshPromise, SendPromise, ArrivePromise, RestPromise, LogPromise, LogPlace, LengthPromise};
+ghost use Rattle.bench_promises.specs.Promises.{FreshPromise, SendPromise, ArrivePromise, RestPromise, LogPromise, LogPlace};
+ghost use Rattle.bench_promises.specs.Promises.{LengthPromise};
 ghost use Rattle.bench.specs.Lists.{listsOf, withLists, emptyBench, freshWith, sentWith, arrivedWith};
 
 pub struct Bench {
@@ -24,7 +25,7 @@ pub struct Bench {
     pub tables: [u32; Tables::SIZE],
     // the columns of the messages
     pub messages: [u32; Messages::SIZE],
-    // hops made and hops taken of each ordered pair of units
+    // hops made and hops taken, by sender and receiver
     pub pairs: PairCounts,
     // the columns of the small numbers of each unit
     pub gauges: [u16; Gauges::SIZE],
@@ -161,7 +162,7 @@ fn is_short(hops: usize, book: usize) -> bool
     book < Limits::BOOK
 }
 
-// A bench with no messages and no hops.
+// A bench without messages and hops.
 fn empty(
     units: usize,
     groups: [u32; Limits::GROUPS],
@@ -211,7 +212,7 @@ fn begun(
 }
 
 impl Bench {
-    // A fresh bench on a forest. The lent hops and log book are set to zeros.
+    // A fresh bench on a forest. The hops and the log book are set to zeros.
     pub fn fresh(
         units: usize,
         groups: [u32; Limits::GROUPS],
@@ -278,7 +279,7 @@ impl Bench {
         after_arrive(self, told, messages, pairs, gauges)
     }
 
-    // Whether the bench is at rest.
+    // Is the bench at rest?
     pub fn rest(self, hops: &[model::Hop]) -> RestReply
         ensures { λ r. ⌜ RestPromise (listsOf self) (now (hops .entry)) r ⌝ }
     {
@@ -286,7 +287,7 @@ impl Bench {
         bench_engine::rest(totals, hops)
     }
 
-    // The log of a unit: the part of the lent book itself that holds its messages. Turned away, an empty part.
+    // The log of a unit, as a part of the caller's book. Turned away, an empty part.
     pub fn log<'a>(self, unit: u16, book: &'a [u16]) -> &'a [u16]
         ensures promise { λ r. ⌜ LogPromise (listsOf self) unit (now (book .entry)) (now r) ⌝ }
         ensures place { λ r. ⌜ LogPlace (listsOf self) unit (book .entry) r ⌝ }

@@ -78,7 +78,8 @@ by-row = by-array u16 (by-uint w16) 32
 
 -- what the functions that take copies are passed: an arrival, tables, messages, pairs, hops, book
 abbrev on-copies : List (Pass 5)
-on-copies = value Arr by-arrival ∷ relayed 0 tt u32 (by-uint w32) ∷ lent 1 tt u32 ∷ lent 2 tt Grid ∷ lent 3 tt R ∷ lent 4 tt u16 ∷ []
+on-copies = value Arr by-arrival ∷ relayed 0 tt u32 (by-uint w32) ∷ lent 1 tt u32 ∷ lent 2 tt Grid ∷
+    lent 3 tt R ∷ lent 4 tt u16 ∷ []
 
 -- a contract that says the result and four lists
 abbrev pub result-and-four : {X A B C D : Type 0} → Telling X (A × (B × (C × (D × Unit {0}))))
@@ -95,7 +96,8 @@ module _ {M : Type 1} (𝓤 : URA M) (H : Heap 𝓤) (Θ : Atoms 𝓤) where
 
   abbrev pub refusal-callee : Callee 𝓤 H Θ
   refusal-callee =
-      by-rule 𝓤 H Θ (value T by-totals ∷ value u16 (by-uint w16) ∷ value usize (by-uint w64) ∷ value usize (by-uint w64) ∷ []) u8
+      by-rule 𝓤 H Θ (value T by-totals ∷ value u16 (by-uint w16) ∷ value usize (by-uint w64) ∷
+      value usize (by-uint w64) ∷ []) u8
       (by-uint w8)
       (λ d. arriveRefusal (d .0 .made) (d .1 .0) (d .1 .1 .0) (d .1 .1 .1 .0))
 
@@ -103,7 +105,8 @@ module _ {M : Type 1} (𝓤 : URA M) (H : Heap 𝓤) (Θ : Atoms 𝓤) where
   is-closed-callee = by-rule 𝓤 H Θ (value u8 (by-uint w8) ∷ value R by-hop ∷ []) bool by-bool (λ d. isClosed (d .0) (d .1 .0))
 
   abbrev pub closed-callee : Callee 𝓤 H Θ
-  closed-callee = by-rule 𝓤 H Θ (value T by-totals ∷ value u8 (by-uint w8) ∷ []) Arrived.the-row by-arrived (λ d. closedAs (d .0) (d .1 .0))
+  closed-callee = by-rule 𝓤 H Θ (value T by-totals ∷ value u8 (by-uint w8) ∷ []) Arrived.the-row by-arrived
+      (λ d. closedAs (d .0) (d .1 .0))
 
   abbrev pub taken-of-callee : Callee 𝓤 H Θ
   taken-of-callee = stating 𝓤 H Θ 1 (value R by-hop ∷ shown 0 tt Grid ∷ []) u16 (by-uint w16) the-result
@@ -185,7 +188,8 @@ module _ {M : Type 1} (𝓤 : URA M) (H : Heap 𝓤) (Θ : Atoms 𝓤) where
 
   abbrev pub finished-arrival-callee : Callee 𝓤 H Θ
   finished-arrival-callee =
-      stating 𝓤 H Θ 2 (value T by-totals ∷ value Arr by-arrival ∷ lent 0 tt Grid ∷ lent 1 tt u16 ∷ []) Arrived.the-row by-arrived
+      stating 𝓤 H Θ 2 (value T by-totals ∷ value Arr by-arrival ∷ lent 0 tt Grid ∷ lent 1 tt u16 ∷ [])
+      Arrived.the-row by-arrived
       result-and-lists
       (λ d. arrivedAs (d .0) (d .1 .0))
       (λ d. let l = d .1 .1 in (finishedPairs (d .1 .0) (l .0), (finishedGauges (d .1 .0) (l .1 .0), tt)))
@@ -193,7 +197,8 @@ module _ {M : Type 1} (𝓤 : URA M) (H : Heap 𝓤) (Θ : Atoms 𝓤) where
   -- ---- of sending.rt
   abbrev pub send-refusal-callee : Callee 𝓤 H Θ
   send-refusal-callee =
-      stating 𝓤 H Θ 1 (value T by-totals ∷ value u16 (by-uint w16) ∷ value u16 (by-uint w16) ∷ value usize (by-uint w64) ∷ relayed 0 tt u32
+      stating 𝓤 H Θ 1 (value T by-totals ∷ value u16 (by-uint w16) ∷ value u16 (by-uint w16) ∷
+      value usize (by-uint w64) ∷ relayed 0 tt u32
       (by-uint w32) ∷ [])
       u8 (by-uint w8) the-result (λ d. sendRefusal (d .0) (d .1 .1 .1 .1 .0) (d .1 .0) (d .1 .1 .0) (d .1 .1 .1 .0)) (λ d. tt)
 
@@ -209,7 +214,8 @@ module _ {M : Type 1} (𝓤 : URA M) (H : Heap 𝓤) (Θ : Atoms 𝓤) where
 
   abbrev pub count-hop-callee : Callee 𝓤 H Θ
   count-hop-callee =
-      stating 𝓤 H Θ 2 (value u16 (by-uint w16) ∷ value u16 (by-uint w16) ∷ relayed 0 tt u32 (by-uint w32) ∷ lent 1 tt Grid ∷ []) u16
+      stating 𝓤 H Θ 2 (value u16 (by-uint w16) ∷ value u16 (by-uint w16) ∷ relayed 0 tt u32 (by-uint w32) ∷
+      lent 1 tt Grid ∷ []) u16
       (by-uint w16) result-and-list
       (λ d. let l = d .1 .1 in sequenceOf (l .0) (d .0) (d .1 .0) (l .1 .0))
       (λ d. let l = d .1 .1 in (recordedPairs (l .0) (d .0) (d .1 .0) (l .1 .0), tt))
@@ -233,7 +239,8 @@ module _ {M : Type 1} (𝓤 : URA M) (H : Heap 𝓤) (Θ : Atoms 𝓤) where
       (λ d. restReply (d .0) (d .1 .0))
 
   -- ---- the calls; `-shown` is for one that holds the tables in an array of its own
-  abbrev SendSaid : T .Denot → (source group word : ℕ) → (ts ms : List ℕ) → List (List (List ℕ)) → List Hop → Sent.the-row .Denot
+  abbrev SendSaid : T .Denot → (source group word : ℕ) → (ts ms : List ℕ) → List (List (List ℕ)) → List Hop
+      → Sent.the-row .Denot
       → List ℕ × (List (List (List ℕ)) × (List Hop × Unit {0})) → Type 0
   SendSaid t s g w ts ms ps hs r es =
       (gs : List ℕ) → SendPromise (bench t ts ms ps gs) s g w hs (r .reply) (bench (r .totals) ts (es .0) (es .1 .0) gs) (es .1 .1 .0)
@@ -252,7 +259,8 @@ module _ {M : Type 1} (𝓤 : URA M) (H : Heap 𝓤) (Θ : Atoms 𝓤) where
       (λ d r es. let l = d .1 .1 .1 .1 in SendSaid (d .0) (d .1 .0) (d .1 .1 .0) (d .1 .1 .1 .0) (l .0) (l .1 .0) (l .1 .1 .0)
       (l .1 .1 .1 .0) r es)
 
-  abbrev ArriveSaid : T .Denot → (hop : ℕ) → (ts ms : List ℕ) → List (List (List ℕ)) → List ℕ → List Hop → List ℕ → Arrived.the-row .Denot
+  abbrev ArriveSaid : T .Denot → (hop : ℕ) → (ts ms : List ℕ) → List (List (List ℕ)) → List ℕ → List Hop → List ℕ
+      → Arrived.the-row .Denot
       → List ℕ × (List (List (List ℕ)) × (List ℕ × (List Hop × (List ℕ × Unit {0})))) → Type 0
   ArriveSaid t j ts ms ps gs hs book r es =
       ArrivePromise (bench t ts ms ps gs) j hs book (r .reply) (bench (r .totals) ts (es .0) (es .1 .0) (es .1 .1 .0)) (es .1 .1 .1 .0)
@@ -261,7 +269,8 @@ module _ {M : Type 1} (𝓤 : URA M) (H : Heap 𝓤) (Θ : Atoms 𝓤) where
   abbrev pub arrive-callee : RelationalCallee 𝓤 H Θ
   arrive-callee =
       promising 𝓤 H Θ 6 (value T by-totals ∷ value u16 (by-uint w16) ∷
-      relayed 0 tt u32 (by-uint w32) ∷ lent 1 tt u32 ∷ lent 2 tt Grid ∷ lent 3 tt u16 ∷ lent 4 tt R ∷ lent 5 tt u16 ∷ []) Arrived.the-row
+      relayed 0 tt u32 (by-uint w32) ∷ lent 1 tt u32 ∷ lent 2 tt Grid ∷ lent 3 tt u16 ∷ lent 4 tt R ∷
+      lent 5 tt u16 ∷ []) Arrived.the-row
       by-arrived
       (λ d r es. let l = d .1 .1 in ArriveSaid (d .0) (d .1 .0) (l .0) (l .1 .0) (l .1 .1 .0) (l .1 .1 .1 .0) (l .1 .1 .1 .1 .0)
       (l .1 .1 .1 .1 .1 .0) r es)
@@ -269,7 +278,8 @@ module _ {M : Type 1} (𝓤 : URA M) (H : Heap 𝓤) (Θ : Atoms 𝓤) where
   abbrev pub arrive-shown-callee : RelationalCallee 𝓤 H Θ
   arrive-shown-callee =
       promising 𝓤 H Θ 6 (value T by-totals ∷ value u16 (by-uint w16) ∷
-      shown 0 tt u32 ∷ lent 1 tt u32 ∷ lent 2 tt Grid ∷ lent 3 tt u16 ∷ lent 4 tt R ∷ lent 5 tt u16 ∷ []) Arrived.the-row by-arrived
+      shown 0 tt u32 ∷ lent 1 tt u32 ∷ lent 2 tt Grid ∷ lent 3 tt u16 ∷ lent 4 tt R ∷ lent 5 tt u16 ∷ [])
+      Arrived.the-row by-arrived
       (λ d r es. let l = d .1 .1 in ArriveSaid (d .0) (d .1 .0) (l .0) (l .1 .0) (l .1 .1 .0) (l .1 .1 .1 .0) (l .1 .1 .1 .1 .0)
       (l .1 .1 .1 .1 .1 .0) r es)
 

@@ -188,7 +188,7 @@ fn delivery_to(receiver: u8, m: u16, tables: &[u32], messages: &[u32]) -> Delive
     }
 }
 
-// A receiver that is a member logs the message.
+// The receiver logs the message if it is a member.
 fn log_copy(a: Arrival, d: Delivery, book: &mut [u16])
     ensures { λ _. ⌜ now (book .exit) ≡ logCopy a d (now (book .entry)) ⌝ }
 {
@@ -197,7 +197,7 @@ fn log_copy(a: Arrival, d: Delivery, book: &mut [u16])
     }
 }
 
-// The hops to make: one to each child of the receiver that is on the route of the message's group.
+// The hops to make: one to each of the receiver's children on the route of the message's group.
 fn outgoing(a: Arrival, d: Delivery) -> hops::Outgoing
     ensures { λ r. ⌜ r ≡ outgoingOf a d ⌝ }
 {
@@ -305,7 +305,7 @@ fn next(a: Arrival, hops: &[model::Hop]) -> Arrival
     moved(a, place, state)
 }
 
-// As long as the next hop of the pair is held, it is taken, up to the arrival's number of copies.
+// Takes the next hop of the pair while it is held, up to the arrival's number of copies.
 fn settle(
     start: Arrival,
     tables: &[u32],
@@ -379,7 +379,8 @@ fn finished(
     gauges: &mut [u16],
 ) -> Arrived
     ensures { λ r. ⌜ (r ≡ arrivedAs t a)
-        × (now (pairs .exit) ≡ finishedPairs a (now (pairs .entry))) × (now (gauges .exit) ≡ finishedGauges a (now (gauges .entry))) ⌝ }
+        × (now (pairs .exit) ≡ finishedPairs a (now (pairs .entry)))
+        × (now (gauges .exit) ≡ finishedGauges a (now (gauges .entry))) ⌝ }
 {
     update(a, pairs, gauges);
     let totals = totals_after(t, a);

@@ -2,7 +2,7 @@
 // lists of the caller's; hops and log book are lent beside them. What each call promises stands in bench_promises/specs/Promises.antt.
 //     tables     what is computed of the forest (crate `forest_tables`)
 //     messages   columns of the messages: their sources, groups and words (`Messages` of `bench_store`)
-//     pairs      two arrays of counts of each ordered pair of units: hops made, hops taken (`PairCounts` of `bench_store`)
+//     pairs      two arrays of counts by sender and receiver: hops made, hops taken (`PairCounts` of `bench_store`)
 //     gauges     columns of the small numbers of each unit: the lengths of the logs (`Gauges` of `bench_store`)
 pub mod arriving;
 pub mod looking;

@@ -1,4 +1,4 @@
-// The calls that change nothing: whether a bench is at rest, and the log of a unit.
+// The calls that change nothing: is a bench at rest, and the log of a unit.
 use bench_promises::LogReply;
 use bench_promises::RestReply;
 use bench_promises::Totals;
@@ -24,9 +24,10 @@ fn rested(t: Totals, hops: usize) -> RestReply
     RestReply::Rest(t.taken == t.made)
 }
 
-// Whether the bench is at rest.
+// Is the bench at rest?
 pub fn rest(t: Totals, hops: &[model::Hop]) -> RestReply
-    ensures { λ r. ⌜ ((ts ms : List ℕ) (ps : List (List (List ℕ))) (gs : List ℕ) → RestPromise (bench t ts ms ps gs) (now (hops .entry)) r)
+    ensures { λ r. ⌜ ((ts ms : List ℕ) (ps : List (List (List ℕ))) (gs : List ℕ)
+        → RestPromise (bench t ts ms ps gs) (now (hops .entry)) r)
         ⌝ }
 {
     let lent = hops.len();
@@ -74,7 +75,7 @@ fn count(unit: u16, tables: &[u32], gauges: &[u16], book: usize) -> usize
     unless_refused(unit, tables, book, length)
 }
 
-// The log of a unit: the part of the lent book itself that holds its messages. Turned away, an empty part.
+// The log of a unit, as a part of the caller's book. Turned away, an empty part.
 pub fn log<'a>(unit: u16, tables: &[u32], gauges: &[u16], book: &'a [u16]) -> &'a [u16]
     ensures promise { λ r. ⌜ ((t : BenchTotals) (ms : List ℕ) (ps : List (List (List ℕ)))
         → LogPromise (bench t (now (tables .entry)) ms ps (now (gauges .entry))) unit (now (book .entry)) (now r)) ⌝ }

@@ -1,4 +1,4 @@
-// One send: the message is recorded, and one hop made, from the source to the group's primary.
+// One send: the message is recorded, and one hop made, from its source to the primary of its group.
 use crate::Sent;
 use bench_promises::SendReply;
 use bench_promises::Totals;

@@ -58,7 +58,8 @@ nextAt b j hs = isNext (countIn (b .pairs) 1 (hopAt hs j .sender) (hopAt hs j .r
 abbrev pub endAt : Bench → ℕ → List Hop → List ℕ → Settling
 endAt b j hs book = arriveEnd (b .totals) (b .tables) (b .messages) (b .pairs) (b .gauges) j hs book
 
-module _ (P : Plan) (forest : Forest P) (ms : List Message) (hs : List Hop) (ls : List (List ℕ)) (valid : Valid P forest (network ms hs ls))
+module _ (P : Plan) (forest : Forest P) (ms : List Message) (hs : List Hop) (ls : List (List ℕ))
+    (valid : Valid P forest (network ms hs ls))
     (first : TakenFirst hs) (idle : (s r : ℕ) → Idle hs s r) (rest : List Hop) (rest′ : List ℕ) (j : ℕ) where
   abbrev W : Network
   W = network ms hs ls
@@ -75,7 +76,7 @@ module _ (P : Plan) (forest : Forest P) (ms : List Message) (hs : List Hop) (ls 
   abbrev number : ℕ
   number = arriveRefusal (length hs) j (length lent) (length book)
 
-  -- what an arrival of a hop that is out answers and leaves is the rule's outcome o: one that is only held, and one that is the next
+  -- what an arrival of an untaken, unheld hop answers and leaves is the rule's outcome o: one that is only held, and one that is the next
   pub record Holds (o : Outcome) : Type 0 where
     pub answer : arriveAnswer HeldHop ≡ answerOf o
     pub bench : b ≡ benchOf P (leftOf o)
@@ -101,7 +102,8 @@ module _ (P : Plan) (forest : Forest P) (ms : List Message) (hs : List Hop) (ls 
   unfolding hopsOf messagesOf
   few-hops = le-trans (limits .hops) (limits .routes)
 
-  unchanged : (o : Outcome) → leftOf o ≡ W → isClosed number (hopAt lent j) ≡ true → arriveAnswer (closedReply number) ≡ answerOf o → Agree
+  unchanged : (o : Outcome) → leftOf o ≡ W → isClosed number (hopAt lent j) ≡ true
+      → arriveAnswer (closedReply number) ≡ answerOf o → Agree
       o
   unchanged o left t answer = record { shut = λ e. (left, answer); held = λ e _. absurd (clash t e); out = λ e _. absurd (clash t e) }
 
@@ -349,7 +351,8 @@ module _ (P : Plan) (forest : Forest P) (ms : List Message) (hs : List Hop) (ls 
           unfolding withColumn benchOf logOf tabulate
           gauges-updated =
               append-nil (set (tabulate 32 (λ u. length (logOf u W))) r (length (logOf r W″)))
-              ∙ tabulate-set 32 (λ u. length (logOf u W)) (λ u. length (logOf u W″)) r _ to-r refl (λ u bu ne. ap length (S .logs u ne))
+              ∙ tabulate-set 32 (λ u. length (logOf u W)) (λ u. length (logOf u W″)) r _ to-r refl
+              (λ u bu ne. ap length (S .logs u ne))
 
           totals-updated : record {
             made = length (hopsOf W″);
@@ -381,7 +384,8 @@ module _ (P : Plan) (forest : Forest P) (ms : List Message) (hs : List Hop) (ls 
           bench-finished : arrivedBench b end ≡ benchOf P W″
           unfolding finishedTotals finishedPairs finishedGauges settlingOf arrivalOf benchOf hopsOf
           bench-finished = ⊎-elim
-              (λ (t : eqb n 0 ≡ true). simp t (subst Same (sym (S .none (eqb-true n 0 t))) (ap withPairs (sym pairs-are) ∙ sym hold-bench)))
+              (λ (t : eqb n 0 ≡ true). simp t (subst Same (sym (S .none (eqb-true n 0 t)))
+              (ap withPairs (sym pairs-are) ∙ sym hold-bench)))
               (λ (t : eqb n 0 ≡ false). simp t (λ i. record {
                 totals = totals-updated i;
                 tables = tablesAt P;

@@ -1,4 +1,4 @@
--- Laws of the log book, 32 rows of 200 numbers: one number logged, a row read back; and the fresh state. Assumes nothing.
+-- Laws of the log book, of 200 numbers in each of 32 rows: one number logged, a row read back; and the fresh state. Assumes nothing.
 use mathlib.Core.Path.{_≡_, refl, sym, ap, subst, _∙_}
 use mathlib.Core.Bool.{_&&_}
 use mathlib.Core.List.{List, [], _∷_, _++_, append-assoc}
@@ -17,7 +17,8 @@ use Rattle.model.specs.Rules.{routeTotal}
 use Rattle.forest_tables.specs.Computed.{tablesOf}
 use Rattle.bench_store.specs.Values.{noCounts, logged}
 use Rattle.bench_promises.specs.Machine.{freshBench}
-use Rattle.bench_promises.specs.State.{padded, joined, hopRecords, logBook, pairTable, messageColumn, messageList, totalsOf, benchOf}
+use Rattle.bench_promises.specs.State.{padded, joined, hopRecords, logBook, pairTable, messageColumn, messageList, totalsOf}
+use Rattle.bench_promises.specs.State.{benchOf}
 use Rattle.bench_promises.proofs.Padding.{padded-none, padded-length, padded-snoc, getD-constant, tabulate-constant}
 
 module _ {A : Type 0} where
@@ -78,7 +79,8 @@ module _ {A : Type 0} where
       (λ v p. other (suc v) (λ q. p (suc-inj q))) i)
 
   -- the first j of row u
-  pub joined-part : (n k : ℕ) (f : ℕ → List A) (u j : ℕ) (rest : List A) → u < n → ((i : ℕ) → length (f i) ≡ k) → j ≤ k
+  pub joined-part : (n k : ℕ) (f : ℕ → List A) (u j : ℕ) (rest : List A) → u < n
+      → ((i : ℕ) → length (f i) ≡ k) → j ≤ k
       → take j (drop (u * k) (joined n f ++ rest)) ≡ take j (f u)
   unfolding joined
   joined-part zero k f u j rest b long c = absurd (not-suc-le-zero b)
@@ -102,7 +104,8 @@ row-length f short u = padded-length 200 0 (f u) (short u)
 pub book-length : (f : ℕ → List ℕ) → ((u : ℕ) → length (f u) ≤ 200) → length (joined 32 (λ u. padded 200 0 (f u))) ≡ 6400
 book-length f short = joined-length 32 200 (λ u. padded 200 0 (f u)) (row-length f short)
 
-pub book-log : (f g : ℕ → List ℕ) (u m : ℕ) (rest : List ℕ) → u < 32 → ((v : ℕ) → length (f v) ≤ 200) → length (f u) < 200
+pub book-log : (f g : ℕ → List ℕ) (u m : ℕ) (rest : List ℕ) → u < 32
+    → ((v : ℕ) → length (f v) ≤ 200) → length (f u) < 200
     → g u ≡ f u ++ m ∷ [] → ((v : ℕ) → (v ≡ u → ⊥) → g v ≡ f v)
     → logged u (length (f u)) m (joined 32 (λ v. padded 200 0 (f v)) ++ rest) ≡ joined 32 (λ v. padded 200 0 (g v)) ++ rest
 unfolding logged
@@ -136,7 +139,8 @@ fresh-hops = padded-none 2000 noHop
 pub fresh-book : logBook fresh ≡ replicate 6400 0
 unfolding logBook
 fresh-book =
-    joined-same 32 (λ u. padded 200 0 (logOf u fresh)) (λ u. replicate 200 0) (λ u. ap (padded 200 0) (fresh-log u) ∙ padded-none 200 0)
+    joined-same 32 (λ u. padded 200 0 (logOf u fresh)) (λ u. replicate 200 0)
+    (λ u. ap (padded 200 0) (fresh-log u) ∙ padded-none 200 0)
     ∙ joined-constant 32 200 0
 
 -- a table whose entries are all x

@@ -60,7 +60,8 @@ arrivalOf W s r at end n = record {
 
 -- ---- the lent hops
 
-pub record-at : (hs rest : List Hop) (j : ℕ) → j < length hs → length hs ≤ 2000 → hopAt (padded 2000 noHop hs ++ rest) j ≡ hopAt hs j
+pub record-at : (hs rest : List Hop) (j : ℕ) → j < length hs → length hs ≤ 2000
+    → hopAt (padded 2000 noHop hs ++ rest) j ≡ hopAt hs j
 unfolding hopAt
 record-at hs rest j b few =
     append-at (padded 2000 noHop hs) rest noHop j (subst (λ (n : ℕ). j < n) (sym (padded-length 2000 noHop hs few)) (le-trans b few))
@@ -81,10 +82,11 @@ children-are : (ps : List ℕ) (way r : ℕ) → membersOf (intersection (childr
 unfolding membersOf childrenOn childrenOf isChild
 children-are ps way r = rising-same 32 0 _ _ (λ c a b.
     member-intersection (childrenOf ps r) way c
-    ∙ ap (λ (t : Bool). t && member way c) (member-collect 32 (isChild ps r) c (omega arith) ∙ ap (λ (t : Bool). t && eqb (parent ps c) r)
+    ∙ ap (λ (t : Bool). t && member way c) (member-collect 32 (isChild ps r) c (omega arith)
+    ∙ ap (λ (t : Bool). t && eqb (parent ps c) r)
     (lt-ltb c 32 (omega arith))))
 
--- no unit is its own child
+-- a unit is not its own child
 pub child-apart : (P : Plan) → Forest P → (way s r : ℕ) → Apart s r r (childrenOn (P .parents) way r)
 unfolding Apart Acyclic
 child-apart P forest way s r c i e q =
@@ -93,7 +95,8 @@ child-apart P forest way s r c i e q =
 
 -- ---- the copy
 
-module _ (P : Plan) (forest : Forest P) (ms : List Message) (hs : List Hop) (ls : List (List ℕ)) (valid : Valid P forest (network ms hs ls))
+module _ (P : Plan) (forest : Forest P) (ms : List Message) (hs : List Hop) (ls : List (List ℕ))
+    (valid : Valid P forest (network ms hs ls))
     (s r j : ℕ) (N : Next s r hs j) (rest : List Hop) (rest′ : List ℕ) (t : List (List ℕ)) (end n : ℕ) (few : n < 65535) where
   abbrev W : Network
   W = network ms hs ls
@@ -146,11 +149,11 @@ module _ (P : Plan) (forest : Forest P) (ms : List Message) (hs : List Hop) (ls 
   unfolding hopsOf
   unit = subst (λ (u : ℕ). u < 32) to-r (before .records j (N .within) .receiver)
 
-  sent-group : g < 24
+  sent-group : g < P .count
   unfolding hopsOf messagesOf Valid
   sent-group =
       let number = before .records j (N .within) .message in
-      le-trans (valid ms [] (sym (append-nil ms)) .admitted .groups m (number .0) (number .1)) (forest .few-groups)
+      valid ms [] (sym (append-nil ms)) .admitted .groups m (number .0) (number .1)
 
   abbrev a : Arrival
   a = arrivalOf W s r j end n
@@ -183,13 +186,17 @@ module _ (P : Plan) (forest : Forest P) (ms : List Message) (hs : List Hop) (ls 
   unfolding deliveryAt deliveryTo arrivalOf groupIn routeIn childrenIn groupOf routeOf
   delivery-is =
       ap (λ (h : Hop). deliveryTo ts ns r (h .message)) (record-at hs rest j (N .within) few-hops)
-      ∙ ap (λ (k : ℕ). record { message = m; member = member (groupIn ts k) r; children = intersection (childrenIn ts r) (routeIn ts k) })
+      ∙ ap (λ (k : ℕ). record {
+        message = m;
+        member = member (groupIn ts k) r;
+        children = intersection (childrenIn ts r) (routeIn ts k);
+      })
       (group-at ms m few-number)
       ∙ (λ i. record {
         message = m;
-        member = member (group-in (P .units) (P .count) (P .groups) (P .parents) g sent-group i) r;
+        member = member (group-in (P .units) (P .count) (P .groups) (P .parents) g sent-group (forest .few-groups) i) r;
         children = intersection (children-column (P .units) (P .count) (P .groups) (P .parents) r unit i)
-            (route-in (P .units) (P .count) (P .groups) (P .parents) g sent-group i);
+            (route-in (P .units) (P .count) (P .groups) (P .parents) g sent-group (forest .few-groups) i);
       })
 
   forwarding-is : forwarding ts ns a (pairsOf hs t) lent ≡ forwardingOf t r m below (setState j 2 hs)
@@ -248,9 +255,11 @@ module _ (P : Plan) (forest : Forest P) (ms : List Message) (hs : List Hop) (ls 
       ap (λ (x : Delivery). logCopy a x (logBook W ++ rest′)) delivery-is
       ∙ ⊎-elim
       (λ t. cond-true _ _ _ t
-      ∙ book-log (λ u. logOf u W) (λ u. logOf u W′) r m rest′ unit (before .log) (omega (arith, after .log r, log-count t)) (log-longer t)
+      ∙ book-log (λ u. logOf u W) (λ u. logOf u W′) r m rest′ unit (before .log)
+      (omega (arith, after .log r, log-count t)) (log-longer t)
       log-same)
-      (λ t. cond-false _ _ _ t ∙ ap (λ (l : List ℕ). l ++ rest′) (joined-same 32 _ _ (λ u. ap (padded 200 0) (by-cases (ℕ-discrete u r)
+      (λ t. cond-false _ _ _ t ∙ ap (λ (l : List ℕ). l ++ rest′)
+      (joined-same 32 _ _ (λ u. ap (padded 200 0) (by-cases (ℕ-discrete u r)
       (λ e. subst (λ (k : ℕ). logOf k W ≡ logOf k W′) (sym e) (sym (log-kept t))) (λ ne. sym (log-same u ne))))))
       (either (member (groupOf P g) r))
 
@@ -276,7 +285,8 @@ module _ (P : Plan) (forest : Forest P) (ms : List Message) (hs : List Hop) (ls 
 
   pub copy-pair : pairCount s r hs′ ≡ pairCount s r hs
   copy-pair =
-      forward-count-apart s r r m (childrenOn (P .parents) way r) (setState j 2 hs) (child-apart P forest way s r) ∙ count-pair-state s r j
+      forward-count-apart s r r m (childrenOn (P .parents) way r) (setState j 2 hs) (child-apart P forest way s r)
+      ∙ count-pair-state s r j
       2 hs
 
   copy-takes : pairTaken s r hs′ ≡ suc (pairTaken s r hs)

@@ -25,7 +25,8 @@ use Rattle.bench_promises.proofs.Sends.{counts-made, next-number, count
 
 -- ---- rising lists
 
-pub rising-same : (k i : ℕ) (t u : ℕ → Bool) → ((c : ℕ) → i ≤ c → c < i + k → t c ≡ u c) → rising k i t ≡ rising k i u
+pub rising-same : (k i : ℕ) (t u : ℕ → Bool) → ((c : ℕ) → i ≤ c → c < i + k → t c ≡ u c)
+    → rising k i t ≡ rising k i u
 unfolding rising
 rising-same zero i t u same = refl
 rising-same (suc k) i t u same =
@@ -40,7 +41,8 @@ rising-none (suc k) i t none =
     ∙ rising-none k (suc i) t (λ c a b. none c (omega arith) (omega arith))
 
 -- the first that passes, and then the others
-rising-first : (k i c : ℕ) (t u : ℕ → Bool) → i ≤ c → c < i + k → t c ≡ true → u c ≡ false → ((d : ℕ) → i ≤ d → d < c → t d ≡ false)
+rising-first : (k i c : ℕ) (t u : ℕ → Bool) → i ≤ c → c < i + k → t c ≡ true → u c ≡ false
+    → ((d : ℕ) → i ≤ d → d < c → t d ≡ false)
     → ((d : ℕ) → i ≤ d → d < i + k → (d ≡ c → ⊥) → u d ≡ t d) → rising k i t ≡ c ∷ rising k i u
 unfolding rising push
 rising-first zero i c t u a b tc uc below others = absurd (omega arith)
@@ -99,7 +101,8 @@ length-made : (v c m : ℕ) (hs : List Hop) → length (made v c m hs) ≡ suc (
 unfolding made
 length-made v c m hs = length-snoc hs (newHop v c m hs)
 
-module _ (t : List (List ℕ)) (v m x : ℕ) (hs : List Hop) (unit : v < 32) (b : x < 2 ^ 32) (some : x ≡ 0 → ⊥) (few : length hs < 65535)
+module _ (t : List (List ℕ)) (v m x : ℕ) (hs : List Hop) (unit : v < 32) (b : x < 2 ^ 32) (some : x ≡ 0 → ⊥)
+    (few : length hs < 65535)
   where
     abbrev child : ℕ
     child = lowest x
@@ -145,7 +148,8 @@ none-forwarded t (suc k) v m hs =
     ∙ ap (λ (l : List ℕ). forwardingOf t v m 0 (forward v m l hs)) (sym members-none)
 
 none-listed : (t : List (List ℕ)) (k v m : ℕ) (hs rest : List Hop)
-    → forwardedHops k (forwardingOf t v m 0 hs) (padded 2000 noHop hs ++ rest) ≡ padded 2000 noHop (forward v m (membersOf 0) hs) ++ rest
+    → forwardedHops k (forwardingOf t v m 0 hs) (padded 2000 noHop hs ++ rest)
+    ≡ padded 2000 noHop (forward v m (membersOf 0) hs) ++ rest
 unfolding forwardedHops forward
 none-listed t zero v m hs rest = ap (λ (l : List ℕ). padded 2000 noHop (forward v m l hs) ++ rest) (sym members-none)
 none-listed t (suc k) v m hs rest =
@@ -187,7 +191,8 @@ forwarded-all t (suc k) v m x hs unit b fuel few = by-cases (ℕ-discrete x 0)
     ∙ ap (λ (l : List ℕ). forwardingOf t v m 0 (forward v m l hs)) (sym (members-some x b ne)))
 
 -- the next hop, stored at the end of the hops made
-stored : (t : List (List ℕ)) (v m x : ℕ) (hs rest : List Hop) → v < 32 → x < 2 ^ 32 → (x ≡ 0 → ⊥) → length hs < 2000 → length hs < 65535
+stored : (t : List (List ℕ)) (v m x : ℕ) (hs rest : List Hop) → v < 32 → x < 2 ^ 32 → (x ≡ 0 → ⊥)
+    → length hs < 2000 → length hs < 65535
     → set (padded 2000 noHop hs ++ rest) (length hs) (nextHop (forwardingOf t v m x hs)) ≡ padded 2000 noHop (made v
     (lowest x) m hs) ++ rest
 unfolding made

@@ -12,7 +12,8 @@ use Rattle.forest_tables.specs.Computed.{unitCount}
 use Rattle.bench_store.specs.Values.{columnAt}
 use Rattle.bench_promises.specs.Machine.{unlessRefused, logStart, logCount}
 
-refuse-both : {A : Type 0} (Q : A → A → Type 0) (t : Bool) (none x y : A) → Q none none → (t ≡ false → Q x y) → Q (refuse t none x)
+refuse-both : {A : Type 0} (Q : A → A → Type 0) (t : Bool) (none x y : A) → Q none none → (t ≡ false → Q x y)
+    → Q (refuse t none x)
     (refuse t none y)
 unfolding refuse
 refuse-both Q true none x y q f = q

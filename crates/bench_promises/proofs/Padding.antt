@@ -94,7 +94,8 @@ module _ {A : Type 0} where
   tabulate-constant zero x = refl
   tabulate-constant (suc n) x = ap (λ (l : List A). x ∷ l) (tabulate-constant n x)
 
-  pub tabulate-set : (n : ℕ) (f g : ℕ → A) (i : ℕ) (y : A) → i < n → g i ≡ y → ((k : ℕ) → k < n → (k ≡ i → ⊥) → g k ≡ f k)
+  pub tabulate-set : (n : ℕ) (f g : ℕ → A) (i : ℕ) (y : A) → i < n → g i ≡ y
+      → ((k : ℕ) → k < n → (k ≡ i → ⊥) → g k ≡ f k)
       → set (tabulate n f) i y ≡ tabulate n g
   tabulate-set n f g i y b e other =
       tabulated n g (set (tabulate n f) i y) y (length-set (tabulate n f) i y ∙ length-tabulate n f)
@@ -105,7 +106,8 @@ module _ {A : Type 0} where
 
 -- ---- rows
 
-added-at : (f g : ℕ → ℕ) (r n : ℕ) → r < 32 → f r + n < 65536 → g r ≡ f r + n → ((k : ℕ) → k < 32 → (k ≡ r → ⊥) → g k ≡ f k)
+added-at : (f g : ℕ → ℕ) (r n : ℕ) → r < 32 → f r + n < 65536 → g r ≡ f r + n
+    → ((k : ℕ) → k < 32 → (k ≡ r → ⊥) → g k ≡ f k)
     → added (tabulate 32 f) r n ≡ tabulate 32 g
 unfolding added
 added-at f g r n b small e other =
@@ -124,12 +126,14 @@ unfolding pairTable
 row-at f s b = getD-tabulate 32 (λ a. tabulate 32 (f a)) s [] b
 
 -- the count of a pair in array k of a list
-pub count-at : (ps : List (List (List ℕ))) (k : ℕ) (f : ℕ → ℕ → ℕ) (s r : ℕ) → ltb k (length ps) ≡ true → getD ps k [] ≡ pairTable f
+pub count-at : (ps : List (List (List ℕ))) (k : ℕ) (f : ℕ → ℕ → ℕ) (s r : ℕ) → ltb k (length ps) ≡ true
+    → getD ps k [] ≡ pairTable f
     → s < 32 → r < 32 → countIn ps k s r ≡ f s r
 unfolding countIn
 count-at ps k f s r within e b c =
     cond-true _ _ _ (and-both (ltb k (length ps)) (isPair s r) within (pair-in s r b c))
-    ∙ ap (λ (t : List (List ℕ)). getD (getD t s []) r 0) e ∙ ap (λ (l : List ℕ). getD l r 0) (row-at f s b) ∙ getD-tabulate 32 (f s) r 0 c
+    ∙ ap (λ (t : List (List ℕ)). getD (getD t s []) r 0) e ∙ ap (λ (l : List ℕ). getD l r 0) (row-at f s b)
+    ∙ getD-tabulate 32 (f s) r 0 c
 
 pair-set : (f g : ℕ → ℕ → ℕ) (s : ℕ) (row : List ℕ) → s < 32 → row ≡ tabulate 32 (g s)
     → ((a b : ℕ) → a < 32 → b < 32 → (a ≡ s → ⊥) → g a b ≡ f a b) → set (pairTable f) s row ≡ pairTable g
@@ -163,7 +167,8 @@ message-new : (ms : List Message) (x : Message) → getD (ms ++ x ∷ []) (lengt
 message-new [] x = refl
 message-new (y ∷ ms) x = message-new ms x
 
-message-old : (ms : List Message) (x : Message) (i : ℕ) → (i ≡ length ms → ⊥) → getD (ms ++ x ∷ []) i noMessage ≡ getD ms i noMessage
+message-old : (ms : List Message) (x : Message) (i : ℕ) → (i ≡ length ms → ⊥)
+    → getD (ms ++ x ∷ []) i noMessage ≡ getD ms i noMessage
 message-old [] x zero ne = absurd (ne refl)
 message-old [] x (suc i) ne = refl
 message-old (y ∷ ms) x zero ne = refl
@@ -178,7 +183,8 @@ column-snoc f ms x h =
     (ap f (message-new ms x)) (λ k b ne. ap f (message-old ms x k ne))
 
 -- a number in the column b of a list
-column-set : (a b c : List ℕ) (k n i x : ℕ) → length a ≡ k → length b ≡ n → withColumn (a ++ (b ++ c)) k n i x ≡ a ++ (set b i x ++ c)
+column-set : (a b c : List ℕ) (k n i x : ℕ) → length a ≡ k → length b ≡ n
+    → withColumn (a ++ (b ++ c)) k n i x ≡ a ++ (set b i x ++ c)
 unfolding withColumn
 column-set a b c k n i x ea eb =
     ap (λ (l : List ℕ). l ++ (set (take n (drop k (a ++ (b ++ c)))) i x ++ drop n (drop k (a ++ (b ++ c))))) (take-at a (b ++ c) k ea)
@@ -198,14 +204,17 @@ pub messages-snoc : (ms : List Message) (x : Message) → length ms < 200
 unfolding messageList
 messages-snoc ms x b =
     let n : ℕ = length ms in let all : List Message = ms ++ x ∷ [] in
-    let source : Message → ℕ = λ y. y .source in let group : Message → ℕ = λ y. y .group in let word : Message → ℕ = λ y. y .word in
+    let source : Message → ℕ = λ y. y .source in let group : Message → ℕ = λ y. y .group in
+    let word : Message → ℕ = λ y. y .word in
     let A : List ℕ = messageColumn source ms in let B : List ℕ = messageColumn group ms in let C : List ℕ = messageColumn word ms in
-    let A′ : List ℕ = messageColumn source all in let B′ : List ℕ = messageColumn group all in let C′ : List ℕ = messageColumn word all in
+    let A′ : List ℕ = messageColumn source all in let B′ : List ℕ = messageColumn group all in
+    let C′ : List ℕ = messageColumn word all in
     let first : withColumn (A ++ (B ++ C)) 0 200 n (x .source) ≡ A′ ++ (B ++ C) =
     column-set [] A (B ++ C) 0 200 n (x .source) refl (column-length source ms) ∙ ap (λ (l : List ℕ). l ++ (B ++ C))
     (column-snoc source ms x b) in
     let second : withColumn (A′ ++ (B ++ C)) 200 200 n (x .group) ≡ A′ ++ (B′ ++ C) =
-    column-set A′ B C 200 200 n (x .group) (column-length source all) (column-length group ms) ∙ ap (λ (l : List ℕ). A′ ++ (l ++ C))
+    column-set A′ B C 200 200 n (x .group) (column-length source all) (column-length group ms)
+    ∙ ap (λ (l : List ℕ). A′ ++ (l ++ C))
     (column-snoc group ms x b) in
     let both : length (A′ ++ B′) ≡ 400 = omega (arith, length-append A′ B′, column-length source all, column-length group all) in
     let third : withColumn (A′ ++ (B′ ++ C)) 400 200 n (x .word) ≡ A′ ++ (B′ ++ C′) =

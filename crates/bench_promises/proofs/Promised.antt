@@ -65,14 +65,16 @@ fresh-promise n c gs ps hops book = record {
         ap (λ (x : Bool). freshAnswer (cond x FreshTooShort Made)) t,
         ap (λ (x : Bool). filled (cond x 0 2000) noHop hops) t ∙ filled-whole 2000 noHop hops w ∙ ap
             (λ (l : List Hop). l ++ drop 2000 hops) (sym fresh-hops),
-        ap (λ (x : Bool). filled (cond x 0 6400) 0 book) t ∙ filled-whole 6400 0 book w′ ∙ ap (λ (l : List ℕ). l ++ drop 6400 book)
+        ap (λ (x : Bool). filled (cond x 0 6400) 0 book) t ∙ filled-whole 6400 0 book w′
+            ∙ ap (λ (l : List ℕ). l ++ drop 6400 book)
             (sym fresh-book),
       );
   bench = sym (fresh-bench (record { units = n; count = c; groups = gs; parents = ps }));
 }
   where
     is-short : (length hops < 2000) ⊎ (length book < 6400) → isShort (length hops) (length book) ≡ true
-    is-short s = ⊎-elim (λ l. or-left (ltb (length hops) 2000) _ (lt-ltb _ _ l)) (λ l. or-right (ltb (length hops) 2000) _ (lt-ltb _ _ l)) s
+    is-short s = ⊎-elim (λ l. or-left (ltb (length hops) 2000) _ (lt-ltb _ _ l))
+        (λ l. or-right (ltb (length hops) 2000) _ (lt-ltb _ _ l)) s
 
 -- ---- the lent lists of a state
 
@@ -142,7 +144,8 @@ send-taken b s g w hops some = record {
 }
 
 -- there is an answer for every input
-pub send-some : (b : Bench) (s g w : ℕ) (hops : List Hop) → (r : SendReply) × (left : Bench) × (hops-left : List Hop) × SendPromise b s g w
+pub send-some : (b : Bench) (s g w : ℕ) (hops : List Hop) → (r : SendReply) × (left : Bench)
+    × (hops-left : List Hop) × SendPromise b s g w
     hops r left hops-left
 send-some b s g w hops = ⊎-elim (λ some. (_, _, _, send-taken b s g w hops some)) (λ none. (_, _, _, send-refused b s g w hops none))
     (either (eqb (sendNumber b s g hops) 0))
@@ -157,7 +160,8 @@ short-arrive : (made j hops book : ℕ) → (hops < 2000) ⊎ (book < 6400) → 
 unfolding arriveRefusal refuse
 short-arrive made j hops book s = ⊎-elim
     (λ l. simp (lt-ltb hops 2000 l) refl)
-    (λ l. ap (λ (t : Bool). refuse (ltb hops 2000) 1 (refuse t 1 (refuse (leb made j) 16 0))) (lt-ltb book 6400 l) ∙ one (ltb hops 2000))
+    (λ l. ap (λ (t : Bool). refuse (ltb hops 2000) 1 (refuse t 1 (refuse (leb made j) 16 0))) (lt-ltb book 6400 l)
+    ∙ one (ltb hops 2000))
     s
   where
     one : (t : Bool) → _≡_ {A = ℕ} (refuse t 1 1) 1
@@ -183,7 +187,8 @@ module _ (P : Plan) (forest : Forest P) (j : ℕ) (hops : List Hop) (book : List
   abbrev All : Bench → List Hop → List ℕ → Network → Type 0
   All b l k W = Closes b l k W × Holds b l k W × Arrives b l k W
 
-  arrive-as : (W : Network) → Valid P forest W → TakenFirst (hopsOf W) → ((s r : ℕ) → Idle (hopsOf W) s r) → (b : Bench) → b ≡ benchOf P W
+  arrive-as : (W : Network) → Valid P forest W → TakenFirst (hopsOf W) → ((s r : ℕ) → Idle (hopsOf W) s r)
+      → (b : Bench) → b ≡ benchOf P W
       → OfHops W hops → OfBook W book → All b hops book W
   unfolding benchOf totalsOf hopsOf
   arrive-as (network ms hs ls) valid first idle b at of of′ =
@@ -191,7 +196,8 @@ module _ (P : Plan) (forest : Forest P) (j : ℕ) (hops : List Hop) (book : List
       let e = lent-hops W hops of in
       let e′ = lent-book W book of′ in
       let G = A.agrees P forest ms hs ls valid first idle (drop 2000 hops) (drop 6400 book) j
-      (subst (λ (l : List Hop). 2000 ≤ length l) (sym e) (of .whole)) (subst (λ (l : List ℕ). 6400 ≤ length l) (sym e′) (of′ .whole)) in
+      (subst (λ (l : List Hop). 2000 ≤ length l) (sym e) (of .whole))
+      (subst (λ (l : List ℕ). 6400 ≤ length l) (sym e′) (of′ .whole)) in
       subst (λ (x : Bench). All x hops book W) (sym at) (subst (λ (k : List ℕ). All (benchOf P W) hops k W) e′
       (subst (λ (l : List Hop). All (benchOf P W) l (logBook W ++ drop 6400 book) W) e (
         (λ shut.
@@ -207,7 +213,8 @@ module _ (P : Plan) (forest : Forest P) (j : ℕ) (hops : List Hop) (book : List
       )))
 
 -- turned away, or the hop is not out: the very same values are left
-pub arrive-closed : (b : Bench) (j : ℕ) (hops : List Hop) (book : List ℕ) → isClosed (arriveNumber b j hops book) (hopAt hops j) ≡ true
+pub arrive-closed : (b : Bench) (j : ℕ) (hops : List Hop) (book : List ℕ)
+    → isClosed (arriveNumber b j hops book) (hopAt hops j) ≡ true
     → ArrivePromise b j hops book (closedReply (arriveNumber b j hops book)) b hops book
 unfolding after closedReply arriveAnswer refuse
 arrive-closed b j hops book shut = record {
@@ -226,8 +233,9 @@ never-refused a number e = by (eqb (a .taken) 0) e
     by true e = let z : _≡_ {A = ℕ} 0 1 = cc in omega arith
     by false e = let z : _≡_ {A = ℕ} 0 1 = cc in omega arith
 
--- a hop that is out: one that is not the next of its pair is held, and one that is settles its pair
-module _ (b : Bench) (j : ℕ) (hops : List Hop) (book : List ℕ) (out : isClosed (arriveNumber b j hops book) (hopAt hops j) ≡ false) where
+-- a hop in state out: one that is not the next of its pair is held, and one that is settles its pair
+module _ (b : Bench) (j : ℕ) (hops : List Hop) (book : List ℕ) (out : isClosed (arriveNumber b j hops book)
+    (hopAt hops j) ≡ false) where
   long : (length hops < 2000) ⊎ (length book < 6400) → ⊥
   unfolding isClosed
   long l = clash (ap (λ (k : ℕ). isClosed k (hopAt hops j)) (short-arrive (b .totals .made) j (length hops) (length book) l)) out
@@ -252,7 +260,8 @@ module _ (b : Bench) (j : ℕ) (hops : List Hop) (book : List ℕ) (out : isClos
   }
 
 pub arrive-some : (b : Bench) (j : ℕ) (hops : List Hop) (book : List ℕ)
-    → (r : ArriveReply) × (left : Bench) × (hops-left : List Hop) × (book-left : List ℕ) × ArrivePromise b j hops book r left hops-left
+    → (r : ArriveReply) × (left : Bench) × (hops-left : List Hop) × (book-left : List ℕ)
+    × ArrivePromise b j hops book r left hops-left
     book-left
 arrive-some b j hops book = ⊎-elim (λ shut. (_, _, _, _, arrive-closed b j hops book shut))
     (λ out. ⊎-elim (λ t. (_, _, _, _, arrive-open b j hops book out t)) (λ t. (_, _, _, _, arrive-held b j hops book out t))
@@ -271,8 +280,8 @@ count-all (h ∷ hs) =
     (λ (a : allTaken hs ≡ true).
     eq-eqb (1 + countHops isTaken hs) (suc (length hs)) (omega (arith, eqb-true (countHops isTaken hs) (length hs) (rest ∙ a))) ∙ sym a)
     (λ (a : allTaken hs ≡ false).
-    ne-eqb (1 + countHops isTaken hs) (suc (length hs)) (λ e. eqb-false (countHops isTaken hs) (length hs) (rest ∙ a) (omega (arith, e))) ∙
-    sym a)
+    ne-eqb (1 + countHops isTaken hs) (suc (length hs)) (λ e. eqb-false (countHops isTaken hs) (length hs) (rest ∙ a) (omega (arith, e)))
+    ∙ sym a)
     (either (allTaken hs))))
     (λ (t : isTaken h ≡ false). simp t (ne-eqb (0 + countHops isTaken hs) (suc (length hs))
     (λ e. absurd (omega (arith, e, count-length isTaken hs)))))
@@ -346,7 +355,8 @@ length-promise b u book = record {
 }
 
 -- where the part lies, from where its start lies
-start-is : (P : Plan) → Forest P → (W : Network) (u book : ℕ) → 6400 ≤ book → u < P .units → logStart (benchOf P W .tables) u book ≡ u * 200
+start-is : (P : Plan) → Forest P → (W : Network) (u book : ℕ) → 6400 ≤ book → u < P .units
+    → logStart (benchOf P W .tables) u book ≡ u * 200
 unfolding logStart unlessRefused refuse
 start-is P forest W u book whole unit =
     simp (le-ltb book 6400 whole, units-at P W) (simp (lt-leb (P .units) u unit) (simp (lt-leb 32 u (le-trans unit (forest .few))) refl))

@@ -4,13 +4,13 @@ use mathlib.Core.Path.{_≡_, refl, sym, ap, subst, _∙_}
 use mathlib.Core.Logic.{_⊎_, inl, inr, ⊎-elim, by-cases}
 use mathlib.Core.Bool.{Bool, _||_}
 use mathlib.Core.List.{List, [], _∷_, _++_}
-use Prim.Native.Nat.{ℕ, _≤_, _<_}
+use Prim.Native.Nat.{ℕ, _+_, _≤_, _<_}
 use native.Mathlib.Nat.{suc-ne-zero}
 use native.Mathlib.Decide.{decLt}
 use native.Mathlib.Omega.{arith}
 use borrow.Author.Tests.{lt-ltb, le-ltb}
-use lib.ListN.{length, take, drop, length-append, take-append-drop}
-use lib.Seq.{length-front, length-take-le, take-append-le, take-at}
+use lib.ListN.{length, take, drop, length-take, take-append-drop}
+use lib.Seq.{take-at, drop-at, drop-drop}
 use lib.Dec.{ltb}
 use Rattle.sets.proofs.Bools.{or-left, or-right}
 use Rattle.model.specs.declared.Hop.{Hop}
@@ -28,7 +28,7 @@ use Rattle.bench_promises.specs.declared.replies.ArriveReply.{ArriveRepl
 use Rattle.bench_promises.specs.Replies.{freshAnswer, sendAnswer, arriveAnswer}
 use Rattle.bench_promises.specs.State.{Bench, hopRecords, logBook, benchOf}
 use Rattle.bench_promises.specs.Promises.{after, OfHops, OfBook, FreshPromise, SendPromise, ArrivePromise}
-use Rattle.bench_promises.specs.Chains.{Called, begun, sends, arrives}
+use Rattle.bench_promises.specs.Chains.{Loan, behind, part, other, lent, kept, Called, begun, sends, arrives}
 use Rattle.bench_promises.proofs.Padding.{padded-length}
 use Rattle.bench_promises.proofs.Books.{book-length}
 
@@ -44,63 +44,41 @@ log-book-length P W L = book-length (λ u. logOf u W) (L .log)
 
 -- ---- lists that are lent
 
--- the first k of a list are x
-record Front {A : Type 0} (k : ℕ) (x l : List A) : Type 0 where
-  whole : k ≤ length l
-  first : take k l ≡ x
+-- k of a list, x, were lent
+module _ {A : Type 0} (k : ℕ) (x : List A) (size : length x ≡ k) where
+  first-lent : (h : Loan A k) → k ≤ length (lent h x) → take k (lent h x) ≡ x
+  unfolding lent
+  first-lent (behind more) whole = take-at x more k size
+  first-lent (part from n few) whole = absurd (omega (arith, few, length-take n (drop from x), whole))
+  first-lent (other list few) whole = absurd (omega (arith, few, whole))
 
--- and it is as long as l was
-record Left {A : Type 0} (k : ℕ) (x l left : List A) : Type 0 where
-  front : Front k x left
-  long : length left ≡ length l
+  -- what is left: the k are y, and what is behind them stays
+  record Left (h : Loan A k) (y left : List A) : Type 0 where
+    first : kept h x left ≡ y
+    stays : left ≡ lent h y
 
-module _ {A : Type 0} (k : ℕ) (x l : List A) where
-  -- nothing is lent
-  kept : Front k x l → Left k x l l
-  kept F = record { front = F; long = refl }
-
-  -- the whole list is lent, and x is written to it
-  replaced : (left : List A) → length x ≡ k → k ≤ length l → left ≡ x ++ drop k l → Left k x l left
-  replaced left size whole e =
-      let same : length left ≡ length l = ap length e ∙ length-front l x k (size ∙ sym (length-take-le k l whole)) in record {
-        front = record { whole = subst (λ (i : ℕ). k ≤ i) (sym same) whole; first = ap (take k) e ∙ take-at x (drop k l) k size };
-        long = same;
-      }
-
--- the first n are lent
-module _ {A : Type 0} (k n : ℕ) (x l : List A) where
-  lent-front : Front k x l → k ≤ length (take n l) → Front k x (take n l)
-  lent-front F whole = record {
-    whole = whole;
-    first = sym (take-append-le k (take n l) (drop n l) whole) ∙ ap (take k) (take-append-drop n l) ∙ F .first;
+  -- nothing was written
+  untouched : (h : Loan A k) (left : List A) → left ≡ lent h x → Left h x left
+  unfolding lent kept
+  untouched (behind more) left e = record { first = ap (take k) e ∙ take-at x more k size; stays = e }
+  untouched (part from n few) left e = record {
+    first = ap (λ (z : List A). take from x ++ z)
+        (ap (λ (z : List A). z ++ drop (from + n) x) e ∙ ap (λ (z : List A). take n (drop from x) ++ z) (sym (drop-drop n from x))
+        ∙ take-append-drop n (drop from x)) ∙ take-append-drop from x;
+    stays = e;
   }
+  untouched (other list few) left e = record { first = refl; stays = e }
 
-  untouched : (left : List A) → Front k x l → left ≡ take n l → Left k x l (left ++ drop n l)
-  untouched left F e = let same = ap (λ y. y ++ drop n l) e ∙ take-append-drop n l in
-      record { front = subst (Front k x) (sym same) F; long = ap length same }
-
-  written : (left : List A) → length x ≡ k → k ≤ length (take n l) → left ≡ x ++ drop k (take n l) → Left k x l (left ++ drop n l)
-  written left size whole e = let L = replaced k x (take n l) left size whole e in record {
-    front = record {
-      whole = omega (arith, L .front .whole, length-append left (drop n l));
-      first = take-append-le k left (drop n l) (L .front .whole) ∙ L .front .first;
-    };
-    long = length-front l left n (L .long);
+  -- y was written
+  written : (h : Loan A k) (y left : List A) → length y ≡ k → k ≤ length (lent h x)
+      → left ≡ y ++ drop k (lent h x) → Left h y left
+  unfolding lent kept
+  written (behind more) y left new whole e = record {
+    first = ap (take k) e ∙ take-at y _ k new;
+    stays = e ∙ ap (λ (z : List A). y ++ z) (drop-at x more k size);
   }
-
--- the hops and the book of a state
-module _ (W : Network) where
-  hops-front : {hops : List Hop} → OfHops W hops → Front 2000 (hopRecords W) hops
-  hops-front H = record { whole = H .whole; first = H .records }
-
-  front-hops : {hops : List Hop} → Front 2000 (hopRecords W) hops → OfHops W hops
-  front-hops F = record { whole = F .whole; records = F .first }
-
-  book-front : {book : List ℕ} → OfBook W book → Front 6400 (logBook W) book
-  book-front B = record { whole = B .whole; first = B .numbers }
-
-  front-book : {book : List ℕ} → Front 6400 (logBook W) book → OfBook W book
-  front-book F = record { whole = F .whole; numbers = F .first }
+  written (part from n few) y left new whole e = absurd (omega (arith, few, length-take n (drop from x), whole))
+  written (other list few) y left new whole e = absurd (omega (arith, few, whole))
 
 -- ---- the state reached
 
@@ -109,14 +87,8 @@ pub record Reached (P : Plan) (past : List Answered) (b : Bench) (hops : List Ho
   pub calls : List Call
   pub history : past ≡ historyOf (run P calls)
   pub bench : b ≡ benchOf P (after P calls)
-  pub of-hops : OfHops (after P calls) hops
-  pub of-book : OfBook (after P calls) book
-
--- one call more: it leaves lists as long
-pub record Next (P : Plan) (past : List Answered) (b : Bench) (hops hops′ : List Hop) (book book′ : List ℕ) : Type 0 where
-  pub reached : Reached P past b hops′ book′
-  pub hops-length : length hops′ ≡ length hops
-  pub book-length : length book′ ≡ length book
+  pub records : hops ≡ hopRecords (after P calls)
+  pub numbers : book ≡ logBook (after P calls)
 
 -- a send leaves the logs
 pub send-book : (P : Plan) (s g w : ℕ) (W : Network) → logBook (leftOf (send P s g w W)) ≡ logBook W
@@ -147,121 +119,153 @@ arrive-short P j n m W b = ap (λ (t : Bool). refuse t (refused 1 W) (arrive P j
     (λ h. or-right (ltb n 2000) (ltb m 6400) (lt-ltb m 6400 h)) b)
 
 module _ (P : Plan) (planned : Planned P) where
+  pub within : (cs : List Call) → Limits P (after P cs)
+  unfolding after
+  within cs = limits P planned cs
+
   -- the call c, with this outcome, after the calls cs
   module _ (cs : List Call) (c : Call) (o : Outcome) (e : call P c (after P cs) ≡ o) where
-    left-state : after P (cs ++ c ∷ []) ≡ leftOf o
+    pub left-state : after P (cs ++ c ∷ []) ≡ leftOf o
     unfolding after
     left-state = network-snoc P cs c ∙ ap leftOf e
 
     left-limits : Limits P (leftOf o)
-    unfolding after
-    left-limits = subst (Limits P) left-state (limits P planned (cs ++ c ∷ []))
+    left-limits = subst (Limits P) left-state (within (cs ++ c ∷ []))
 
-    reached-next : {past : List Answered} {a : Answer} {b : Bench} {hops hops′ : List Hop} {book book′ : List ℕ}
-        → past ≡ historyOf (run P cs) → a ≡ answerOf o → b ≡ benchOf P (leftOf o)
-        → Left 2000 (hopRecords (leftOf o)) hops hops′ → Left 6400 (logBook (leftOf o)) book book′
-        → Next P (past ++ answered c a ∷ []) b hops hops′ book book′
+    reached-next : {past : List Answered} {a : Answer} {b : Bench} {hops : List Hop} {book : List ℕ}
+        → past ≡ historyOf (run P cs) → a ≡ answerOf o → b ≡ benchOf P (leftOf o) → hops ≡ hopRecords (leftOf o)
+        → book ≡ logBook (leftOf o)
+        → Reached P (past ++ answered c a ∷ []) b hops book
     unfolding after
-    reached-next {a = a} {hops′ = hops′} {book′ = book′} h ea eb H B = record {
-      reached = record {
-        calls = cs ++ c ∷ [];
-        history =
-            ap (λ x. x ++ answered c a ∷ []) h ∙ ap (λ x. historyOf (run P cs) ++ answered c x ∷ []) (ea ∙ ap answerOf (sym e))
-            ∙ sym (history-snoc P cs c);
-        bench = eb ∙ ap (benchOf P) (sym left-state);
-        of-hops = subst (λ W. OfHops W hops′) (sym left-state) (front-hops (leftOf o) (H .front));
-        of-book = subst (λ W. OfBook W book′) (sym left-state) (front-book (leftOf o) (B .front));
-      };
-      hops-length = H .long;
-      book-length = B .long;
+    reached-next {a = a} h ea eb eh ek = record {
+      calls = cs ++ c ∷ [];
+      history =
+          ap (λ x. x ++ answered c a ∷ []) h ∙ ap (λ x. historyOf (run P cs) ++ answered c x ∷ []) (ea ∙ ap answerOf (sym e))
+          ∙ sym (history-snoc P cs c);
+      bench = eb ∙ ap (benchOf P) (sym left-state);
+      records = eh ∙ ap hopRecords (sym left-state);
+      numbers = ek ∙ ap logBook (sym left-state);
     }
 
-  pub reached-send : {past : List Answered} {b b′ : Bench} {hops left : List Hop} {book : List ℕ} {r : SendReply}
-      → Reached P past b hops book → (s g w n : ℕ) → SendPromise b s g w (take n hops) r b′ left
-      → Next P (past ++ answered (Send s g w (length (take n hops))) (sendAnswer r) ∷ []) b′ hops (left ++ drop n hops) book book
-  unfolding refused answerOf leftOf
-  reached-send {hops = hops} {left = left} {book = book} R s g w n promise =
-      let cs = R .calls in
-      let W = after P cs in
-      let c = Send s g w (length (take n hops)) in
-      let o = send P s g w W in
-      let H = hops-front W (R .of-hops) in
-      let B = book-front W (R .of-book) in
-      by-cases (decLt (length (take n hops)) 2000)
-      (λ short. let one = promise .short short in let x = promise .refused 1 one in
-      reached-next cs c (refused 1 W) (send-short P s g w _ W short) (R .history) one (x .0 ∙ R .bench)
-      (untouched 2000 n (hopRecords W) hops left H (x .1)) (kept 6400 (logBook W) book B))
-      (λ long. let whole : 2000 ≤ length (take n hops) = omega (arith, long) in
-      let e = send-call P s g w _ W whole in
-      let x = promise .rule P planned cs (R .bench) (front-hops W (lent-front 2000 n (hopRecords W) hops H whole)) in
-      reached-next cs c o e (R .history) (x .answer) (x .bench)
-      (written 2000 n (hopRecords (leftOf o)) hops left (hop-records-length P (leftOf o) (left-limits cs c o e)) whole (x .records))
-      (kept 6400 (logBook (leftOf o)) book (subst (λ y. Front 6400 y book) (sym (send-book P s g w W)) B)))
+  module _ {past : List Answered} {b : Bench} {hops : List Hop} {book : List ℕ} (R : Reached P past b hops book) where
+    abbrev W : Network
+    W = after P (R .calls)
 
-  pub reached-arrive : {past : List Answered} {b b′ : Bench} {hops hops-left : List Hop} {book book-left : List ℕ} {r : ArriveReply}
-      → Reached P past b hops book → (j n m : ℕ) → ArrivePromise b j (take n hops) (take m book) r b′ hops-left book-left
-      → Next P (past ++ answered (Arrive j (length (take n hops)) (length (take m book))) (arriveAnswer r) ∷ [])
-      b′ hops (hops-left ++ drop n hops) book (book-left ++ drop m book)
-  unfolding refused answerOf leftOf
-  reached-arrive {hops = hops} {hops-left = hops-left} {book = book} {book-left = book-left} R j n m promise =
-      let cs = R .calls in
-      let W = after P cs in
-      let o = arrive P j W in
-      let c = Arrive j (length (take n hops)) (length (take m book)) in
-      let H = hops-front W (R .of-hops) in
-      let B = book-front W (R .of-book) in
-      let turned : ((length (take n hops) < 2000) ⊎ (length (take m book) < 6400)) → _ = λ short.
-      let one = promise .short short in let x = promise .refused 1 one in
-      reached-next cs c (refused 1 W) (arrive-short P j _ _ W short) (R .history) one (x .0 ∙ R .bench)
-      (untouched 2000 n (hopRecords W) hops hops-left H (x .1)) (untouched 6400 m (logBook W) book book-left B (x .2)) in
-      by-cases (decLt (length (take n hops)) 2000) (λ short. turned (inl short)) (λ long.
-      by-cases (decLt (length (take m book)) 6400) (λ short. turned (inr short)) (λ long′.
-      let whole : 2000 ≤ length (take n hops) = omega (arith, long) in
-      let whole′ : 6400 ≤ length (take m book) = omega (arith, long′) in
-      let e = arrive-call P j _ _ W whole whole′ in
-      let x = promise .rule P planned cs (R .bench) (front-hops W (lent-front 2000 n (hopRecords W) hops H whole))
-      (front-book W (lent-front 6400 m (logBook W) book B whole′)) in
-      let within = left-limits cs c o e in
-      reached-next cs c o e (R .history) (x .answer) (x .bench)
-      (written 2000 n (hopRecords (leftOf o)) hops hops-left (hop-records-length P (leftOf o) within) whole (x .records))
-      (written 6400 m (logBook (leftOf o)) book book-left (log-book-length P (leftOf o) within) whole′ (x .numbers))))
+    pub hops-whole : length hops ≡ 2000
+    hops-whole = ap length (R .records) ∙ hop-records-length P W (within (R .calls))
+
+    pub book-whole : length book ≡ 6400
+    book-whole = ap length (R .numbers) ∙ log-book-length P W (within (R .calls))
+
+    pub of-hops : (h : Loan Hop 2000) → 2000 ≤ length (lent h hops) → OfHops W (lent h hops)
+    of-hops h whole = record { whole = whole; records = first-lent 2000 hops hops-whole h whole ∙ R .records }
+
+    pub of-book : (k : Loan ℕ 6400) → 6400 ≤ length (lent k book) → OfBook W (lent k book)
+    of-book k whole = record { whole = whole; numbers = first-lent 6400 book book-whole k whole ∙ R .numbers }
+
+    -- one call more, and of each list that it was lent only the first are other ones
+    pub record SentOn (s g w : ℕ) (h : Loan Hop 2000) (r : SendReply) (b′ : Bench) (left : List Hop) : Type 0 where
+      pub reached : Reached P (past ++ answered (Send s g w (length (lent h hops))) (sendAnswer r) ∷ []) b′ (kept h hops left) book
+      pub stays : left ≡ lent h (kept h hops left)
+
+    pub reached-send : {b′ : Bench} {left : List Hop} {r : SendReply} (s g w : ℕ) (h : Loan Hop 2000)
+        → SendPromise b s g w (lent h hops) r b′ left → SentOn s g w h r b′ left
+    unfolding refused answerOf leftOf
+    reached-send {left = left} s g w h promise =
+        let cs = R .calls in
+        let n = length (lent h hops) in
+        let c = Send s g w n in
+        let o = send P s g w W in
+        by-cases (decLt n 2000)
+        (λ few. let one = promise .short few in let x = promise .refused 1 one in
+        let H = untouched 2000 hops hops-whole h left (x .1) in record {
+          reached = reached-next cs c (refused 1 W) (send-short P s g w n W few) (R .history) one (x .0 ∙ R .bench)
+              (H .first ∙ R .records) (R .numbers);
+          stays = H .stays ∙ ap (lent h) (sym (H .first));
+        })
+        (λ long. let whole : 2000 ≤ n = omega (arith, long) in
+        let e = send-call P s g w n W whole in
+        let x = promise .rule P planned cs (R .bench) (of-hops h whole) in
+        let H = written 2000 hops hops-whole h (hopRecords (leftOf o)) left
+        (hop-records-length P (leftOf o) (left-limits cs c o e)) whole (x .records) in record {
+          reached = reached-next cs c o e (R .history) (x .answer) (x .bench) (H .first)
+              (R .numbers ∙ sym (send-book P s g w W));
+          stays = H .stays ∙ ap (lent h) (sym (H .first));
+        })
+
+    pub record ArrivedOn (j : ℕ) (h : Loan Hop 2000) (k : Loan ℕ 6400) (r : ArriveReply) (b′ : Bench)
+        (hops-left : List Hop) (book-left : List ℕ) : Type 0 where
+      pub reached : Reached P (past ++ answered (Arrive j (length (lent h hops)) (length (lent k book))) (arriveAnswer r) ∷ [])
+          b′ (kept h hops hops-left) (kept k book book-left)
+      pub hops-stay : hops-left ≡ lent h (kept h hops hops-left)
+      pub book-stays : book-left ≡ lent k (kept k book book-left)
+
+    pub reached-arrive : {b′ : Bench} {hops-left : List Hop} {book-left : List ℕ} {r : ArriveReply} (j : ℕ) (h : Loan Hop 2000)
+        (k : Loan ℕ 6400) → ArrivePromise b j (lent h hops) (lent k book) r b′ hops-left book-left
+        → ArrivedOn j h k r b′ hops-left book-left
+    unfolding refused answerOf leftOf
+    reached-arrive {b′} {hops-left} {book-left} {r} j h k promise =
+        let cs = R .calls in
+        let n = length (lent h hops) in
+        let m = length (lent k book) in
+        let o = arrive P j W in
+        let c = Arrive j n m in
+        let turned : ((n < 2000) ⊎ (m < 6400)) → ArrivedOn j h k r b′ hops-left book-left = λ few.
+        let one = promise .short few in let x = promise .refused 1 one in
+        let H = untouched 2000 hops hops-whole h hops-left (x .1) in
+        let B = untouched 6400 book book-whole k book-left (x .2) in record {
+          reached = reached-next cs c (refused 1 W) (arrive-short P j n m W few) (R .history) one (x .0 ∙ R .bench)
+              (H .first ∙ R .records) (B .first ∙ R .numbers);
+          hops-stay = H .stays ∙ ap (lent h) (sym (H .first));
+          book-stays = B .stays ∙ ap (lent k) (sym (B .first));
+        } in
+        by-cases (decLt n 2000) (λ few. turned (inl few)) (λ long.
+        by-cases (decLt m 6400) (λ few. turned (inr few)) (λ long′.
+        let whole : 2000 ≤ n = omega (arith, long) in
+        let whole′ : 6400 ≤ m = omega (arith, long′) in
+        let e = arrive-call P j n m W whole whole′ in
+        let x = promise .rule P planned cs (R .bench) (of-hops h whole) (of-book k whole′) in
+        let L = left-limits cs c o e in
+        let H = written 2000 hops hops-whole h (hopRecords (leftOf o)) hops-left (hop-records-length P (leftOf o) L) whole (x .records) in
+        let B = written 6400 book book-whole k (logBook (leftOf o)) book-left (log-book-length P (leftOf o) L) whole′ (x .numbers) in
+        record {
+          reached = reached-next cs c o e (R .history) (x .answer) (x .bench) (H .first) (B .first);
+          hops-stay = H .stays ∙ ap (lent h) (sym (H .first));
+          book-stays = B .stays ∙ ap (lent k) (sym (B .first));
+        }))
 
   -- ---- each list of calls
 
-  pub fresh-state : (hops hops-left : List Hop) (book book-left : List ℕ) (r : FreshReply) (b : Bench) → 2000 ≤ length hops → 6400 ≤ length
-      book
+  -- a fresh bench that is lent whole lists
+  pub fresh-state : (hops hops-left : List Hop) (book book-left : List ℕ) (r : FreshReply) (b : Bench)
+      → 2000 ≤ length hops → 6400 ≤ length book
       → FreshPromise (P .units) (P .count) (P .groups) (P .parents) hops book r b hops-left book-left
-      → Next P [] b hops hops-left book book-left
+      → Reached P [] b (take 2000 hops-left) (take 6400 book-left)
   unfolding after run runFrom networkOf historyOf
   fresh-state hops hops-left book book-left r b whole whole′ promise =
       let x = promise .whole whole whole′ in
-      let H = replaced 2000 (hopRecords fresh) hops hops-left (hop-records-length P fresh (limits P planned [])) whole (x .1) in
-      let B = replaced 6400 (logBook fresh) book book-left (log-book-length P fresh (limits P planned [])) whole′ (x .2) in record {
-        reached = record {
-          calls = [];
-          history = refl;
-          bench = promise .bench;
-          of-hops = front-hops fresh (H .front);
-          of-book = front-book fresh (B .front);
-        };
-        hops-length = H .long;
-        book-length = B .long;
+      let L = limits P planned [] in record {
+        calls = [];
+        history = refl;
+        bench = promise .bench;
+        records = ap (take 2000) (x .1) ∙ take-at (hopRecords fresh) _ 2000 (hop-records-length P fresh L);
+        numbers = ap (take 6400) (x .2) ∙ take-at (logBook fresh) _ 6400 (log-book-length P fresh L);
       }
 
-  -- a fresh bench that was not refused was lent whole lists
+  -- one that was not refused was lent whole lists
   reached-fresh : (hops hops-left : List Hop) (book book-left : List ℕ) (r : FreshReply) (b : Bench)
       → FreshPromise (P .units) (P .count) (P .groups) (P .parents) hops book r b hops-left book-left
-      → freshAnswer r ≡ [] → Reached P [] b hops-left book-left
+      → freshAnswer r ≡ [] → Reached P [] b (take 2000 hops-left) (take 6400 book-left)
   reached-fresh hops hops-left book book-left r b promise e =
-      by-cases (decLt (length hops) 2000) (λ short. absurd (refusal (promise .short (inl short) .0))) (λ long.
-      by-cases (decLt (length book) 6400) (λ short. absurd (refusal (promise .short (inr short) .0))) (λ long′.
-      fresh-state hops hops-left book book-left r b (omega (arith, long)) (omega (arith, long′)) promise .reached))
+      by-cases (decLt (length hops) 2000) (λ few. absurd (refusal (promise .short (inl few) .0))) (λ long.
+      by-cases (decLt (length book) 6400) (λ few. absurd (refusal (promise .short (inr few) .0))) (λ long′.
+      fresh-state hops hops-left book book-left r b (omega (arith, long)) (omega (arith, long′)) promise))
     where
       refusal : freshAnswer r ≡ 1 ∷ [] → ⊥
       refusal h = suc-ne-zero 0 (ap length (sym h ∙ e))
 
-  pub called-reached : {past : List Answered} {b : Bench} {hops : List Hop} {book : List ℕ} → Called P past b hops book → Reached P past b
-      hops book
+  pub called-reached : {past : List Answered} {b : Bench} {hops : List Hop} {book : List ℕ} → Called P past b hops book
+      → Reached P past b hops book
   called-reached (begun promise e) = reached-fresh _ _ _ _ _ _ promise e
-  called-reached (sends C s g w n promise) = reached-send (called-reached C) s g w n promise .reached
-  called-reached (arrives C j n m promise) = reached-arrive (called-reached C) j n m promise .reached
+  called-reached (sends C s g w h promise) = reached-send (called-reached C) s g w h promise .reached
+  called-reached (arrives C j h k promise) = reached-arrive (called-reached C) j h k promise .reached

@@ -132,7 +132,8 @@ module _ (P : Plan) (forest : Forest P) (ms : List Message) (hs : List Hop) (ls 
     unfolding nextPlace searchEnd searchFrom arrivalOf hopsOf
     search t =
         subst (λ (e : ℕ). FirstFrom s r (suc j) e lent q) (let z : suc j + (end - suc j) ≡ end = omega arith in z)
-        (subst (λ (i : ℕ). FirstFrom s r (suc j) (suc j + (end - suc j)) lent i) (sym same) (search-first (end - suc j) s r (suc j) lent))
+        (subst (λ (i : ℕ). FirstFrom s r (suc j) (suc j + (end - suc j)) lent i) (sym same)
+        (search-first (end - suc j) s r (suc j) lent))
       where
         same : q ≡ nextOfPair (end - suc j) s r (suc j) lent
         same =
@@ -170,7 +171,8 @@ module _ (P : Plan) (forest : Forest P) (ms : List Message) (hs : List Hop) (ls 
           rises = within;
           until = omega arith;
           next = λ b. absurd (omega arith);
-          idle = λ b. after-idle s r r m cs hs j N q (omega (arith, F .from)) (omega arith) found between first (sym (ap isHeld same) ∙ h);
+          idle = λ b. after-idle s r r m cs hs j N q (omega (arith, F .from)) (omega arith) found between first
+              (sym (ap isHeld same) ∙ h);
         })
         (either (isHeld (hopAt lent q)))
 

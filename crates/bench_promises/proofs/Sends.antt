@@ -55,11 +55,11 @@ tablesAt P = tablesOf (P .units) (P .count) (P .groups) (P .parents)
 pub primary-at : (P : Plan) → Forest P → (g : ℕ) → g < P .count → primaryIn (tablesAt P) g ≡ primaryOf P g
 unfolding primaryOf groupOf
 primary-at P forest g b =
-    primary-in (P .units) (P .count) (P .groups) (P .parents) g (le-trans b (forest .few-groups)) (omega (arith, primary-unit P forest g b))
+    primary-in (P .units) (P .count) (P .groups) (P .parents) g b (forest .few-groups) (omega (arith, primary-unit P forest g b))
 
-pub size-at : (P : Plan) (g : ℕ) → g < 24 → size (routeIn (tablesAt P) g) ≡ routeSizeOf P g
+pub size-at : (P : Plan) → Forest P → (g : ℕ) → g < P .count → size (routeIn (tablesAt P) g) ≡ routeSizeOf P g
 unfolding routeSizeOf routeSize groupOf
-size-at P g b = ap size (route-in (P .units) (P .count) (P .groups) (P .parents) g b)
+size-at P forest g b = ap size (route-in (P .units) (P .count) (P .groups) (P .parents) g b (forest .few-groups))
 
 -- ---- one hop more
 
@@ -85,9 +85,11 @@ count-made-other a b s r m hs ne = count-made a b s r m hs ∙ omega
 
 -- the counts of hops made, beside another array: with one more at s and r
 pub counts-made : (hs : List Hop) (t : List (List ℕ)) (s r m : ℕ) → s < 32 → r < 32 → pairCount s r hs < 65535
-    → addedIn (pairTable (λ a b. pairCount a b hs) ∷ t ∷ []) 0 s r 1 ≡ pairTable (λ a b. pairCount a b (made s r m hs)) ∷ t ∷ []
+    → addedIn (pairTable (λ a b. pairCount a b hs) ∷ t ∷ []) 0 s r 1
+    ≡ pairTable (λ a b. pairCount a b (made s r m hs)) ∷ t ∷ []
 counts-made hs t s r m bs br few =
-    pair-added (pairTable (λ a b. pairCount a b hs) ∷ t ∷ []) 0 (λ a b. pairCount a b hs) (λ a b. pairCount a b (made s r m hs)) s r 1 refl
+    pair-added (pairTable (λ a b. pairCount a b hs) ∷ t ∷ []) 0 (λ a b. pairCount a b hs)
+    (λ a b. pairCount a b (made s r m hs)) s r 1 refl
     refl bs br (omega arith) (count-made-here s r m hs) (λ k ne. count-made-row s k r m hs ne)
     (λ a b ne. count-made-other a b s r m hs ne)
 
@@ -95,7 +97,8 @@ counts-made hs t s r m bs br few =
 pub next-number : (hs : List Hop) (t : List (List ℕ)) (s r : ℕ) → s < 32 → r < 32 → pairCount s r hs < 65535
     → plus (countIn (pairTable (λ a b. pairCount a b hs) ∷ t ∷ []) 0 s r) 1 ≡ suc (pairCount s r hs)
 next-number hs t s r bs br few =
-    ap (λ (n : ℕ). plus n 1) (count-at (pairTable (λ a b. pairCount a b hs) ∷ t ∷ []) 0 (λ a b. pairCount a b hs) s r refl refl bs br)
+    ap (λ (n : ℕ). plus n 1) (count-at (pairTable (λ a b. pairCount a b hs) ∷ t ∷ []) 0
+    (λ a b. pairCount a b hs) s r refl refl bs br)
     ∙ plus-small (pairCount s r hs) 1 (omega (arith, few)) ∙ add-one (pairCount s r hs)
 
 -- a hop just made is not taken
@@ -163,7 +166,8 @@ module _ (P : Plan) (forest : Forest P) (ms : List Message) (hs : List Hop) (ls 
   unfolding messagesOf
   few-routes = limits .routes
 
-  either-agrees : (test : Bool) (number other : ℕ) (o : Outcome) → Agree number (refused number W) → (test ≡ false → Agree other o)
+  either-agrees : (test : Bool) (number other : ℕ) (o : Outcome) → Agree number (refused number W)
+      → (test ≡ false → Agree other o)
       → Agree (refuse test number other) (refuse test (refused number W) o)
   unfolding refuse
   either-agrees true number other o a f = a
@@ -172,9 +176,6 @@ module _ (P : Plan) (forest : Forest P) (ms : List Message) (hs : List Hop) (ls 
   module _ (bs : s < P .units) (bg : g < P .count) (fewer : length ms < 200) (routed : routeTotal P ms + routeSizeOf P g ≤ 2000) where
     source-unit : s < 32
     source-unit = le-trans bs (forest .few)
-
-    group-place : g < 24
-    group-place = le-trans bg (forest .few-groups)
 
     top : primaryIn (b .tables) g ≡ primaryOf P g
     unfolding benchOf
@@ -209,7 +210,7 @@ module _ (P : Plan) (forest : Forest P) (ms : List Message) (hs : List Hop) (ls 
           (length-snoc hs (newHop s (primaryOf P g) (suc (length ms)) hs))) i;
       taken = sym (taken-made s (primaryOf P g) (suc (length ms)) hs) i;
       sent = (plus-small (length ms) 1 (omega (arith, fewer)) ∙ add-one (length ms) ∙ sym (length-snoc ms x)) i;
-      routed = (ap (plus (routeTotal P ms)) (size-at P g group-place) ∙ plus-small (routeTotal P ms) (routeSizeOf P g)
+      routed = (ap (plus (routeTotal P ms)) (size-at P forest g bg) ∙ plus-small (routeTotal P ms) (routeSizeOf P g)
           (omega (arith, routed))
           ∙ sym (sum-snoc (λ m. routeSizeOf P (m .group)) ms x)) i;
     }
@@ -242,13 +243,14 @@ module _ (P : Plan) (forest : Forest P) (ms : List Message) (hs : List Hop) (ls 
     }
 
   -- a refusal changes nothing
-  turned-away : (number : ℕ) → sendAnswer (sentReply t number) ≡ Refused number → eqb number 0 ≡ false → Agree number (refused number W)
+  turned-away : (number : ℕ) → sendAnswer (sentReply t number) ≡ Refused number → eqb number 0 ≡ false
+      → Agree number (refused number W)
   turned-away number answer none = record { turned = λ e. (refl, answer); sent = λ e. absurd (clash e none) }
 
   size-is : leb (P .count) g ≡ false → ltb 2000 (plus (routeTotal P ms) (size (routeIn (tablesAt P) g))) ≡ ltb 2000
       (routeTotal P ms + routeSizeOf P g)
   size-is e =
-      ap (λ (k : ℕ). ltb 2000 (plus (routeTotal P ms) k)) (size-at P g (le-trans (leb-false (P .count) g e) (forest .few-groups)))
+      ap (λ (k : ℕ). ltb 2000 (plus (routeTotal P ms) k)) (size-at P forest g (leb-false (P .count) g e))
       ∙ ap (ltb 2000) (plus-small (routeTotal P ms) (routeSizeOf P g) (omega (arith, few-routes, route-few P g)))
 
   pub agrees : 2000 ≤ length lent → Agree (sendRefusal t (b .tables) s g (length lent)) (send P s g w W)

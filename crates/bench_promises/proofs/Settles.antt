@@ -1,4 +1,4 @@
--- As long as the next hop is held, it is taken: the loop over the lent lists follows the rule's. Assumes nothing.
+-- The next hop is taken while it is held: the loop over the lent lists follows the rule's. Assumes nothing.
 use mathlib.Core.Path.{_≡_, refl, sym, ap, _∙_}
 use mathlib.Core.Logic.{by-cases}
 use mathlib.Core.Bool.{Bool, true, false, _&&_}
@@ -47,7 +47,8 @@ settlingOf W s r at end n rest rest′ t =
     record { arrival = arrivalOf W s r at end n; pairs = pairsOf (hopsOf W) t; hops = hopRecords W ++ rest; book = logBook W ++ rest′ }
 
 -- the loop ends in the state in which the rule ends, with as many copies taken
-pub record Ends (W₀ : Network) (s r end : ℕ) (rest : List Hop) (rest′ : List ℕ) (t : List (List ℕ)) (o : Settling) (out : Outcome) : Type 0
+pub record Ends (W₀ : Network) (s r end : ℕ) (rest : List Hop) (rest′ : List ℕ) (t : List (List ℕ)) (o : Settling)
+    (out : Outcome) : Type 0
   where
     pub state : Network
     pub taken : ℕ
@@ -58,7 +59,8 @@ pub record Ends (W₀ : Network) (s r end : ℕ) (rest : List Hop) (rest′ : Li
     pub few : length (hopsOf state) ≤ 2000
 
 -- nothing to take: the rule stops
-pub idle-settle : (k : ℕ) (P : Plan) (s r n : ℕ) (ms : List Message) (hs : List Hop) (ls : List (List ℕ)) → Numbered hs → Idle hs s r
+pub idle-settle : (k : ℕ) (P : Plan) (s r n : ℕ) (ms : List Message) (hs : List Hop) (ls : List (List ℕ))
+    → Numbered hs → Idle hs s r
     → settle k P s r n (network ms hs ls) ≡ outcome (tally n) (network ms hs ls)
 unfolding settle
 idle-settle zero P s r n ms hs ls num idle = refl
@@ -66,7 +68,8 @@ idle-settle (suc k) P s r n ms hs ls num idle =
     cond-false (ltb (nextHeld s r hs) (length hs)) _ _ (le-ltb (nextHeld s r hs) (length hs) (idle-place s r hs num idle))
 
 -- a next hop: the rule takes it
-next-settle : (k : ℕ) (P : Plan) (s r n j : ℕ) (ms : List Message) (hs : List Hop) (ls : List (List ℕ)) → Numbered hs → Next s r hs j
+next-settle : (k : ℕ) (P : Plan) (s r n j : ℕ) (ms : List Message) (hs : List Hop) (ls : List (List ℕ))
+    → Numbered hs → Next s r hs j
     → settle (suc k) P s r n (network ms hs ls) ≡ settle k P s r (suc n) (takeHop P j (network ms hs ls))
 unfolding settle
 next-settle k P s r n j ms hs ls num N =
@@ -109,7 +112,8 @@ module _ (P : Plan) (forest : Forest P) (W₀ : Network) (s r end : ℕ) (small 
 
   -- ---- one copy
 
-  module _ (ms : List Message) (hs : List Hop) (ls : List (List ℕ)) (at n : ℕ) (B : Before (network ms hs ls) at n) (going : at < end) where
+  module _ (ms : List Message) (hs : List Hop) (ls : List (List ℕ)) (at n : ℕ) (B : Before (network ms hs ls) at n)
+      (going : at < end) where
     abbrev W : Network
     W = network ms hs ls
 
@@ -198,14 +202,16 @@ module _ (P : Plan) (forest : Forest P) (W₀ : Network) (s r end : ℕ) (small 
     lent′ = padded 2000 noHop hs′ ++ rest
 
     loop-is : (f : ℕ) → settled ts ns (suc f) start ps lent book
-        ≡ settled ts ns f (arrivalOf W′ s r (on .place) end (suc n)) (pairsOf hs′ t) (hopRecords W′ ++ rest) (logBook W′ ++ rest′)
+        ≡ settled ts ns f (arrivalOf W′ s r (on .place) end (suc n)) (pairsOf hs′ t) (hopRecords W′ ++ rest)
+        (logBook W′ ++ rest′)
     unfolding settled hopRecords hopsOf
     loop-is f =
         cond-true (isGoing start) _ _ (going-on W s r at end n going (omega (arith, B .few)))
         ∙ ap (λ (x : List Hop). settled ts ns f (nextArrival (takeArrival ts ns start ps lent) x) (takePairs ts ns start ps lent) x
         (takeBook ts ns start lent book))
         (copy-hops P forest ms hs ls (B .valid) s r at N rest rest′ t end n small-count)
-        ∙ ap (λ (x : Arrival). settled ts ns f (nextArrival x lent′) (takePairs ts ns start ps lent) lent′ (takeBook ts ns start lent book))
+        ∙ ap (λ (x : Arrival). settled ts ns f (nextArrival x lent′) (takePairs ts ns start ps lent) lent′
+        (takeBook ts ns start lent book))
         (copy-arrival P forest ms hs ls (B .valid) s r at N rest rest′ t end n small-count)
         ∙ ap (λ (x : Arrival). settled ts ns f x (takePairs ts ns start ps lent) lent′ (takeBook ts ns start lent book)) (on .moves)
         ∙ ap (λ (x : List (List (List ℕ))). settled ts ns f (arrivalOf W′ s r (on .place) end (suc n)) x lent′
@@ -219,11 +225,13 @@ module _ (P : Plan) (forest : Forest P) (W₀ : Network) (s r end : ℕ) (small 
   abbrev EndsFrom : ℕ → ℕ → (ms : List Message) (hs : List Hop) (ls : List (List ℕ)) → ℕ → ℕ → Type 0
   EndsFrom f k ms hs ls at n =
       let W = network ms hs ls in
-      Ends W₀ s r end rest rest′ t (settled (tablesAt P) (messageList ms) f (arrivalOf W s r at end n) (pairsOf hs t) (hopRecords W ++ rest)
+      Ends W₀ s r end rest rest′ t (settled (tablesAt P) (messageList ms) f (arrivalOf W s r at end n)
+      (pairsOf hs t) (hopRecords W ++ rest)
       (logBook W ++ rest′))
       (settle k P s r n W)
 
-  stops : (f k : ℕ) (ms : List Message) (hs : List Hop) (ls : List (List ℕ)) (at n : ℕ) → Before (network ms hs ls) at n → end ≤ at
+  stops : (f k : ℕ) (ms : List Message) (hs : List Hop) (ls : List (List ℕ)) (at n : ℕ)
+      → Before (network ms hs ls) at n → end ≤ at
       → EndsFrom f k ms hs ls at n
   unfolding settlingOf hopsOf messagesOf
   stops f k ms hs ls at n B over = record {

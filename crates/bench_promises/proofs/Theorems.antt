@@ -1,36 +1,47 @@
 -- Demand 3 over lists of calls chained by the promises in their contracts; that there are such lists. docs/PROOFS.md leads here.
 -- Assumes nothing.
 use mathlib.Core.Path.{_≡_, refl, sym, ap, subst, _∙_}
+use mathlib.Core.Bool.{Bool, cond}
+use mathlib.Core.Logic.{by-cases}
 use mathlib.Core.List.{List, [], _∷_, _++_, append-nil, map, map-append}
-use Prim.Native.Nat.{ℕ, _+_, _≤_}
+use Prim.Native.Nat.{ℕ, _-_, _≤_, _<_}
+use native.Mathlib.Decide.{decLt}
 use native.Mathlib.Omega.{arith}
-use borrow.Author.Tests.{leb-true, le-ltb}
-use lib.ListN.{length, take, replicate, length-replicate}
-use lib.Seq.{length-take-le, append-snoc, take-append-seam, take-take}
+use borrow.Author.Tests.{leb-true, lt-ltb, le-ltb}
+use lib.ListN.{length, getD, take, replicate, length-append, length-replicate}
+use lib.Seq.{append-snoc, take-append-seam}
 use lib.Dec.{ltb, leb}
 use Rattle.sets.proofs.Bools.{clash}
+use Rattle.layout.specs.Tables.{tabulate}
 use Rattle.forest.specs.declared.Answer.{Answer as ForestAnswer}
-use Rattle.forest.specs.Calls.{refusal, buildRefusal, buildParents, checkRefusal, checkParents}
+use Rattle.layout.specs.Build.{built as layout}
+use Rattle.forest.specs.Calls.{refusal, drawn, groupsRefusal, drawingRefusal, orRoots}
+use Rattle.forest.specs.Calls.{buildRefusal, buildParents, checkRefusal, checkParents}
+use Rattle.forest.proofs.Shared.{same-counted}
+use Rattle.forest_tables.specs.Computed.{columnsOf, tablesOf}
 use Rattle.model.specs.declared.Hop.{Hop}
-use Rattle.model.specs.Network.{Plan, Network, noHop, hopsOf, logOf, sumOf}
-use Rattle.model.specs.Rules.{Answer, allTaken, quiescent}
+use Rattle.model.specs.Network.{Plan, Network, fresh, noHop, messagesOf, hopsOf, logOf, sumOf, countHops, pairCount, pairTaken}
+use Rattle.model.specs.Rules.{Answer, allTaken, quiescent, routeTotal}
 use Rattle.model.specs.Calls.{Call, Send, Arrive, Answered, answered, run, networkOf, historyOf, LogAnswer, log, Rest, rest}
 use Rattle.model.specs.Demand3.{Planned, built, checked, Demand3}
 use Rattle.model.specs.Claims.{Limits, callOf, Reading}
 use Rattle.model.proofs.Runs.{run-calls}
+use Rattle.model.proofs.Planning.{planned-forest}
 use Rattle.model.proofs.Replies.{refuse-either, rest-answers}
 use Rattle.model.proofs.Theorems.{demand-3, reading, limits}
+use Rattle.bench_promises.specs.declared.replies.FreshReply.{FreshReply}
 use Rattle.bench_promises.specs.declared.replies.RestReply.{RestReply}
-use Rattle.bench_promises.specs.Replies.{restAnswer}
-use Rattle.bench_promises.specs.State.{Bench, padded, hopRecords, totalsOf, benchOf}
-use Rattle.bench_promises.specs.Promises.{after, handedBack, OfHops, RestPromise, LogPromise}
-use Rattle.bench_promises.specs.Chains.{Called, begun, sends, arrives, CallsDemand3, RestSays}
-use Rattle.bench_promises.proofs.Promised.{fresh-promise, send-some, arrive-some}
-use Rattle.bench_promises.proofs.Reached.{Reached, called-reached, reached-send, reached-arrive, fresh-state}
+use Rattle.bench_promises.specs.Replies.{freshAnswer, restAnswer}
+use Rattle.bench_promises.specs.State.{Bench, padded, hopRecords, pairTable, messageList, totalsOf, benchOf}
+use Rattle.bench_promises.specs.Promises.{after, handedBack, OfHops, OfBook, FreshPromise, RestPromise, LogPromise}
+use Rattle.bench_promises.specs.Chains.{Loan, behind, other, lent, Called, begun, sends, arrives, asked, CallsDemand3, RestSays}
+use Rattle.bench_promises.specs.Chains.{ChainsExist}
+use Rattle.bench_promises.proofs.Promised.{fresh-promise, send-some, arrive-some, rest-promise, log-promise}
+use Rattle.bench_promises.proofs.Reached.{within, Reached, hops-whole, book-whole, of-hops, of-book, called-reached}
 
 -- ---- what the calls that only look say of the state reached
 
--- a unit's log is what log hands back; what is no unit has none
+-- the call log hands back a unit's log; what is no unit has none
 pub handed-log : (P : Plan) (u book : ℕ) (W : Network) → Limits P W → 6400 ≤ book → handedBack (log P u book W) ≡ logOf u W
 unfolding log handedBack
 handed-log P u book W within whole =
@@ -39,40 +50,56 @@ handed-log P u book W within whole =
     refuse-either Q (leb (P .units) u) _ _ (λ outside. sym (within .units u (leb-true (P .units) u outside))) (λ inside. refl))
 
 -- the hops made are the first of the hops lent
-made-hops : (W : Network) (hops : List Hop) → length (hopsOf W) ≤ 2000 → OfHops W hops → take (length (hopsOf W)) hops ≡ hopsOf W
+made-hops : (W : Network) (hops : List Hop) → hops ≡ hopRecords W → take (length (hopsOf W)) hops ≡ hopsOf W
 unfolding hopRecords padded
-made-hops W hops few H =
-    sym (take-take (length (hopsOf W)) 2000 hops few) ∙ ap (take (length (hopsOf W))) (H .records) ∙ take-append-seam (hopsOf W) _
+made-hops W hops e = ap (take (length (hopsOf W))) e ∙ take-append-seam (hopsOf W) _
 
 module _ (P : Plan) (planned : Planned P) where
-  -- the limits of the state that a list of calls leaves
-  within : (cs : List Call) → Limits P (after P cs)
-  unfolding after
-  within cs = limits P planned cs
-
   module _ {past : List Answered} {b : Bench} {hops : List Hop} {book : List ℕ} (R : Reached P past b hops book) where
-    reached-log : (u : ℕ) (part : List ℕ) → LogPromise b u book part → part ≡ logOf u (after P (R .calls))
-    reached-log u part promise =
-        promise .rule P planned (R .calls) (R .bench) (R .of-book) .0
-        ∙ handed-log P u (length book) (after P (R .calls)) (within (R .calls)) (R .of-book .whole)
+    -- the book with anything behind it, and the hops
+    book-behind : (more : List ℕ) → OfBook (after P (R .calls)) (book ++ more)
+    unfolding lent
+    book-behind more =
+        of-book P planned R (behind more) (omega (arith, length-append book more, book-whole P planned R))
 
-    reached-rest : allTaken (take (b .totals .made) hops) ≡ quiescent (after P (R .calls))
+    hops-behind : (more : List Hop) → OfHops (after P (R .calls)) (hops ++ more)
+    unfolding lent
+    hops-behind more =
+        of-hops P planned R (behind more) (omega (arith, length-append hops more, hops-whole P planned R))
+
+    reached-log : (u : ℕ) (more part : List ℕ) → LogPromise b u (book ++ more) part → part ≡ logOf u (after P (R .calls))
+    reached-log u more part promise =
+        let B = book-behind more in
+        promise .rule P planned (R .calls) (R .bench) B .0
+        ∙ handed-log P u (length (book ++ more)) (after P (R .calls)) (within P planned (R .calls)) (B .whole)
+
+    -- what cannot be asked for is no unit
+    reached-asked : (logs : ℕ → List ℕ) → ((u : ℕ) → u < 65536 → (more : List ℕ) × LogPromise b u (book ++ more) (logs u))
+        → (u : ℕ) → asked logs u ≡ logOf u (after P (R .calls))
+    unfolding asked
+    reached-asked logs promise u = by-cases (decLt u 65536)
+        (λ small. let x = promise u small in
+        ap (λ (t : Bool). cond t (logs u) []) (lt-ltb u 65536 small) ∙ reached-log u (x .0) (logs u) (x .1))
+        (λ large. let past-units : P .units ≤ u = omega (arith, large, planned-forest P planned .few) in
+        ap (λ (t : Bool). cond t (logs u) []) (le-ltb u 65536 (omega (arith, large)))
+        ∙ sym (within P planned (R .calls) .units u past-units))
+
+    pub reached-rest : allTaken (take (b .totals .made) hops) ≡ quiescent (after P (R .calls))
     unfolding benchOf totalsOf quiescent
     reached-rest =
         let W = after P (R .calls) in
-        let L = within (R .calls) in
         ap (λ (n : ℕ). allTaken (take n hops)) (ap (λ (x : Bench). x .totals .made) (R .bench))
-        ∙ ap allTaken (made-hops W hops (omega (arith, L .hops, L .routes)) (R .of-hops))
+        ∙ ap allTaken (made-hops W hops (R .records))
 
     reached-demand-3 : CallsDemand3 P past b hops book
     unfolding CallsDemand3 after
     reached-demand-3 logs promise =
-        coe 0 1 (i. Demand3 P (λ u. sym (reached-log u (logs u) (promise u)) i) (sym reached-rest i) (sym (R .history) i))
+        coe 0 1 (i. Demand3 P (λ u. sym (reached-asked logs promise u) i) (sym reached-rest i) (sym (R .history) i))
         (demand-3 P planned (R .calls))
 
     reached-rest-says : RestSays b hops
     unfolding RestSays
-    reached-rest-says r promise = promise .rule P planned (R .calls) (R .bench) (R .of-hops) ∙ ap Rest (sym reached-rest)
+    reached-rest-says more r promise = promise .rule P planned (R .calls) (R .bench) (hops-behind more) ∙ ap Rest (sym reached-rest)
 
   pub calls-demand-3 : {past : List Answered} {b : Bench} {hops : List Hop} {book : List ℕ} → Called P past b hops book
       → CallsDemand3 P past b hops book
@@ -103,25 +130,31 @@ module _ (P : Plan) (planned : Planned P) {past : List Answered} {b : Bench} {ho
   pub list-history : past ≡ historyOf (run P cs)
   list-history = reached .history ∙ ap (λ (x : List Call). historyOf (run P x)) same-calls
 
-  pub list-log : (u : ℕ) (part : List ℕ) → LogPromise b u book part → part ≡ handedBack (log P u 6400 (networkOf (run P cs)))
+  pub list-log : (u : ℕ) (more part : List ℕ) → LogPromise b u (book ++ more) part
+      → part ≡ handedBack (log P u 6400 (networkOf (run P cs)))
   unfolding after
-  list-log u part promise =
-      reached-log P planned reached u part promise ∙ ap (λ (x : List Call). logOf u (networkOf (run P x))) same-calls
+  list-log u more part promise =
+      reached-log P planned reached u more part promise ∙ ap (λ (x : List Call). logOf u (networkOf (run P x))) same-calls
       ∙ sym (handed-log P u 6400 (networkOf (run P cs)) (limits P planned cs) (omega arith))
 
-  pub list-rest : (r : RestReply) → RestPromise b hops r → restAnswer r ≡ rest 2000 (networkOf (run P cs))
+  pub list-rest : (more : List Hop) (r : RestReply) → RestPromise b (hops ++ more) r → restAnswer r ≡ rest 2000 (networkOf (run P cs))
   unfolding after
-  list-rest r promise =
-      promise .rule P planned _ (reached .bench) (reached .of-hops)
+  list-rest more r promise =
+      promise .rule P planned _ (reached .bench) (hops-behind P planned reached more)
       ∙ ap (λ (x : List Call). Rest (quiescent (networkOf (run P x)))) same-calls
       ∙ sym (rest-answers 2000 (networkOf (run P cs)) (omega arith))
 
 -- ---- there are such calls
 
--- a call is lent at most so many hops, so many numbers
-unfoldable lent : Call → ℕ
-lent (Send s g w n) = n
-lent (Arrive j n m) = n + m
+-- a loan of n
+loan : {A : Type 0} (z : A) (k n : ℕ) → (h : Loan A k) × ((x : List A) → length x ≡ k → length (lent h x) ≡ n)
+unfolding lent
+loan z k n = by-cases (decLt n k)
+    (λ few. (other (replicate n z) (subst (λ (i : ℕ). i < k) (sym (length-replicate n z)) few), λ x size. length-replicate n z))
+    (λ long. (
+      behind (replicate (n - k) z),
+      λ x size. omega (arith, length-append x (replicate (n - k) z), size, length-replicate (n - k) z, long),
+    ))
 
 -- the calls, with one call more
 calls-snoc : (past : List Answered) (c d : Call) (a : Answer) (cs : List Call) → c ≡ d
@@ -133,51 +166,40 @@ calls-snoc past c d a cs e =
 
 module _ (P : Plan) (planned : Planned P) where
   calls-from : (cs : List Call) (before : List Answered) (b : Bench) (hops : List Hop) (book : List ℕ) → Called P before b hops book
-      → sumOf lent cs ≤ length hops → sumOf lent cs ≤ length book
       → (past : List Answered) × (b′ : Bench) × (hops′ : List Hop) × (book′ : List ℕ) × Called P past b′ hops′ book′
       × (map callOf past ≡ map callOf before ++ cs)
-  unfolding sumOf lent
-  calls-from [] before b hops book C few few′ = (before, b, hops, book, C, sym (append-nil (map callOf before)))
-  calls-from (Send s g w n ∷ cs) before b hops book C few few′ =
-      let x = send-some b s g w (take n hops) .3 in
-      let N = reached-send P planned (called-reached P planned C) s g w n x in
-      let y = calls-from cs _ _ _ _ (sends C s g w n x) (omega (arith, few, N .hops-length)) (omega (arith, few′)) in (
-        y .0,
-        y .1,
-        y .2,
-        y .3,
-        y .4,
-        y .5 ∙ calls-snoc before _ _ _ cs
-            (ap (Send s g w) (length-take-le n hops (omega (arith, few)))),
-      )
-  calls-from (Arrive j n m ∷ cs) before b hops book C few few′ =
-      let x = arrive-some b j (take n hops) (take m book) .4 in
-      let N = reached-arrive P planned (called-reached P planned C) j n m x in
-      let y = calls-from cs _ _ _ _ (arrives C j n m x) (omega (arith, few, N .hops-length)) (omega (arith, few′, N .book-length)) in (
-        y .0,
-        y .1,
-        y .2,
-        y .3,
-        y .4,
-        y .5 ∙ calls-snoc before _ _ _ cs
-            (λ i. Arrive j (length-take-le n hops (let z : n ≤ length hops = omega (arith, few) in z) i)
-            (length-take-le m book (let z : m ≤ length book = omega (arith, few′) in z) i)),
-      )
+  calls-from [] before b hops book C = (before, b, hops, book, C, sym (append-nil (map callOf before)))
+  calls-from (Send s g w n ∷ cs) before b hops book C =
+      let (h, sized) = loan noHop 2000 n in
+      let size = sized hops (hops-whole P planned (called-reached P planned C)) in
+      let y = calls-from cs _ _ _ _ (sends C s g w h (send-some b s g w (lent h hops) .3)) in
+      (y .0, y .1, y .2, y .3, y .4, y .5 ∙ calls-snoc before _ _ _ cs (ap (Send s g w) size))
+  calls-from (Arrive j n m ∷ cs) before b hops book C =
+      let R = called-reached P planned C in
+      let (h, sized) = loan noHop 2000 n in
+      let (k, sized′) = loan {A = ℕ} 0 6400 m in
+      let size = sized hops (hops-whole P planned R) in
+      let size′ = sized′ book (book-whole P planned R) in
+      let y = calls-from cs _ _ _ _ (arrives C j h k (arrive-some b j (lent h hops) (lent k book) .4)) in
+      (y .0, y .1, y .2, y .3, y .4, y .5 ∙ calls-snoc before _ _ _ cs (λ i. Arrive j (size i) (size′ i)))
 
-  -- for each list of calls there is a chain
-  pub calls-exist : (cs : List Call) → (past : List Answered) × (b : Bench) × (hops : List Hop) × (book : List ℕ)
-      × Called P past b hops book × (map callOf past ≡ cs)
-  calls-exist cs =
-      let hops : List Hop = replicate (2000 + sumOf lent cs) noHop in
-      let book : List ℕ = replicate (6400 + sumOf lent cs) 0 in
-      let size : length hops ≡ 2000 + sumOf lent cs = length-replicate _ _ in
-      let size′ : length book ≡ 6400 + sumOf lent cs = length-replicate _ _ in
-      let whole : 2000 ≤ length hops = omega (arith, size) in
-      let whole′ : 6400 ≤ length book = omega (arith, size′) in
-      let x = fresh-promise (P .units) (P .count) (P .groups) (P .parents) hops book in
-      let N = fresh-state P planned hops _ book _ _ _ whole whole′ x in
-      calls-from cs [] _ _ _ (begun x (x .whole whole whole′ .0)) (omega (arith, size, N .hops-length))
-      (omega (arith, size′, N .book-length))
+  pub chains-exist : ChainsExist P
+  chains-exist =
+      let begins : (hops : List Hop) (book : List ℕ) → 2000 ≤ length hops → 6400 ≤ length book
+      → (r : FreshReply) × (left : Bench) × (hops-left : List Hop) × (book-left : List ℕ)
+      × FreshPromise (P .units) (P .count) (P .groups) (P .parents) hops book r left hops-left book-left × (freshAnswer r ≡ [])
+      = λ hops book whole whole′. let x = fresh-promise (P .units) (P .count) (P .groups) (P .parents) hops book in
+      (_, _, _, _, x, x .whole whole whole′ .0) in record {
+        begins = begins;
+        goes-on-sending = λ {b = b} {hops = hops} C s g w h. send-some b s g w (lent h hops);
+        goes-on-arriving = λ {b = b} {hops = hops} {book = book} C j h k. arrive-some b j (lent h hops) (lent k book);
+        asks-log = λ {b = b} {book = book} C u more. (_, log-promise b u (book ++ more));
+        asks-rest = λ {b = b} {hops = hops} C more. (_, rest-promise b (hops ++ more));
+        every-list = λ cs.
+            let x = begins (replicate 2000 noHop) (replicate 6400 0) (omega (arith, length-replicate 2000 noHop))
+            (omega (arith, length-replicate {A = ℕ} 6400 0)) in
+            calls-from cs [] _ _ _ (begun (x .4) (x .5));
+      }
 
 -- ---- the forest calls
 
@@ -187,8 +209,40 @@ pub built-planned : (units count : ℕ) (groups : List ℕ) (r : ForestAnswer) �
     → Planned (record { units = units; count = count; groups = groups; parents = r .parents })
 built-planned units count groups r e q accepted = built (sym e ∙ accepted) q
 
-pub checked-planned : (units count : ℕ) (groups drawing : List ℕ) (r : ForestAnswer) → refusal (r .verdict) ≡ checkRefusal units count
+pub checked-planned : (units count : ℕ) (groups drawing : List ℕ) (r : ForestAnswer)
+    → refusal (r .verdict) ≡ checkRefusal units count
     groups drawing
     → r .parents ≡ checkParents units count groups drawing → refusal (r .verdict) ≡ []
     → Planned (record { units = units; count = count; groups = groups; parents = r .parents })
 checked-planned units count groups drawing r e q accepted = checked drawing (sym e ∙ accepted) q
+
+-- a fresh bench depends on the groups that count alone
+pub fresh-counted : (units count : ℕ) (groups groups′ parents : List ℕ)
+    → ((i : ℕ) → i < count → getD groups i 0 ≡ getD groups′ i 0)
+    → benchOf (record { units = units; count = count; groups = groups; parents = parents }) fresh
+    ≡ benchOf (record { units = units; count = count; groups = groups′; parents = parents }) fresh
+unfolding benchOf totalsOf tablesOf fresh messagesOf hopsOf routeTotal sumOf countHops
+fresh-counted units count groups groups′ parents same =
+    let table = same-counted count groups groups′ same in
+    λ i. record {
+      totals = record { made = 0; taken = 0; sent = 0; routed = 0 };
+      tables = columnsOf units count (table i) parents;
+      messages = messageList [];
+      pairs = pairTable (λ s r. pairCount s r []) ∷ pairTable (λ s r. pairTaken s r []) ∷ [];
+      gauges = tabulate 32 (λ u. length (logOf u fresh));
+    }
+
+-- and so does the premise: a forest answered for groups that agree with these where they count
+pub planned-counted : (units count : ℕ) (groups groups′ parents : List ℕ)
+    → ((i : ℕ) → i < count → getD groups i 0 ≡ getD groups′ i 0)
+    → Planned (record { units = units; count = count; groups = groups; parents = parents })
+    → Planned (record { units = units; count = count; groups = groups′; parents = parents })
+unfolding buildRefusal buildParents checkRefusal checkParents
+planned-counted n c gs gs′ ps same (built accepted e) =
+    let table = same-counted c gs gs′ same in
+    built (ap (λ (t : List ℕ). groupsRefusal n c t []) (sym table) ∙ accepted)
+    (e ∙ ap (λ (t : List ℕ). orRoots (groupsRefusal n c t []) (layout n t)) table)
+planned-counted n c gs gs′ ps same (checked drawing accepted e) =
+    let table = same-counted c gs gs′ same in
+    let refused : List ℕ → List ℕ = λ t. groupsRefusal n c t (drawingRefusal n c t (drawn n drawing)) in
+    checked drawing (ap refused (sym table) ∙ accepted) (e ∙ ap (λ (t : List ℕ). orRoots (refused t) (drawn n drawing)) table)

@@ -105,7 +105,8 @@ module _ (ts ms : List ℕ) where
     },
   )
 
-  pub over : {end : Settling} (k : ℕ) (a : Arrival) (ps : List (List (List ℕ))) (hs : List Hop) (book : List ℕ) → T (not (isGoing a))
+  pub over : {end : Settling} (k : ℕ) (a : Arrival) (ps : List (List (List ℕ))) (hs : List Hop) (book : List ℕ)
+      → T (not (isGoing a))
       → Leads end k a
       ps hs book
       → record { arrival = a; pairs = ps; hops = hs; book = book } ≡ end

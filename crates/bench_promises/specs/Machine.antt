@@ -17,13 +17,14 @@ use Rattle.bench_promises.specs.declared.Totals.{Totals}
 use Rattle.bench_promises.specs.declared.arrival.Arrival.{Arrival}
 use Rattle.bench_promises.specs.declared.arrival.Delivery.{Delivery}
 use Rattle.bench_promises.specs.declared.replies.SendReply.{SendReply}
-use Rattle.bench_promises.specs.declared.replies.SendReply.the-variants.{Sent, ListTooShort as SendTooShort, NoSuchUnit, NoSuchGroup}
-use Rattle.bench_promises.specs.declared.replies.SendReply.the-variants.{TooManyMessages, RoutesTooLong}
+use Rattle.bench_promises.specs.declared.replies.SendReply.the-variants.{Sent, ListTooShort as SendTooShort, NoSuchUnit}
+use Rattle.bench_promises.specs.declared.replies.SendReply.the-variants.{NoSuchGroup, TooManyMessages, RoutesTooLong}
 use Rattle.bench_promises.specs.declared.replies.ArriveReply.{ArriveReply}
 use Rattle.bench_promises.specs.declared.replies.ArriveReply.the-variants.{Taken, Held, Repeat, ListTooShort as ArriveTooShort}
 use Rattle.bench_promises.specs.declared.replies.ArriveReply.the-variants.{NotMade}
 use Rattle.bench_promises.specs.declared.replies.LogReply.{LogReply}
-use Rattle.bench_promises.specs.declared.replies.LogReply.the-variants.{Length, ListTooShort as LogTooShort, NoSuchUnit as NoSuchLog}
+use Rattle.bench_promises.specs.declared.replies.LogReply.the-variants.{Length, ListTooShort as LogTooShort}
+use Rattle.bench_promises.specs.declared.replies.LogReply.the-variants.{NoSuchUnit as NoSuchLog}
 use Rattle.bench_promises.specs.declared.replies.RestReply.{RestReply}
 use Rattle.bench_promises.specs.declared.replies.RestReply.the-variants.{Rest, ListTooShort as RestTooShort}
 use Rattle.bench_promises.specs.State.{Bench}
@@ -42,7 +43,7 @@ freshHops hs book = filled (cond (isShort (length hs) (length book)) 0 2000) noH
 unfoldable pub freshBook : List Hop → List ℕ → List ℕ
 freshBook hs book = filled (cond (isShort (length hs) (length book)) 0 6400) 0 book
 
--- no messages and no hops
+-- without messages and hops
 unfoldable pub freshBench : (units count : ℕ) (groups parents : List ℕ) → Bench
 freshBench n c gs ps = record {
   totals = record { made = 0; taken = 0; sent = 0; routed = 0 };
@@ -110,7 +111,8 @@ unfoldable pub isNext : ℕ → Hop → Bool
 isNext taken h = eqb (h .sequence) (plus taken 1)
 
 -- the arrival of the hop at a place, of whose pair `taken` were taken; at most so many copies more are
-unfoldable pub begun : Totals → (ps : List (List (List ℕ))) → (gs : List ℕ) → (place : ℕ) → Hop → (taken copies : ℕ) → Arrival
+unfoldable pub begun : Totals → (ps : List (List (List ℕ))) → (gs : List ℕ) → (place : ℕ) → Hop
+    → (taken copies : ℕ) → Arrival
 begun t ps gs i h taken copies = record {
   sender = h .sender;
   receiver = h .receiver;

@@ -1,7 +1,7 @@
 -- What each call promises (document 01, "For those who test"): these records stand in the contracts of the calls, those on lent lists and
 -- those by value. Definitions only. `b` is the bench that a call's arguments say, `left` the bench that it answers and leaves.
--- The one premise: the forest comes from an unrefused `build` or `check` with the same units and groups (`Planned`), and bench, hops and
--- book are those that a list of calls has left. Of a longer list the first 2,000 hops and 6,400 numbers are used, and the rest stays.
+-- The one premise: an unrefused `build` or `check` of these units and groups gave the forest (`Planned`), and bench, hops and book are
+-- those that a list of calls has left. A list may be longer: only the first 2,000 hops and 6,400 numbers are used, and all others stay.
 use mathlib.Core.Path.{_≡_}
 use mathlib.Core.Logic.{_⊎_}
 use Prim.Native.Nat.{ℕ, _+_, _*_, _≤_, _<_}
@@ -55,7 +55,8 @@ pub record SentAs (P : Plan) (o : Outcome) (hops : List Hop) (r : SendReply) (le
   pub bench : left ≡ benchOf P (leftOf o)
   pub records : hops-left ≡ hopRecords (leftOf o) ++ drop 2000 hops
 
-pub record SendPromise (b : Bench) (source group word : ℕ) (hops : List Hop) (r : SendReply) (left : Bench) (hops-left : List Hop) : Type 0
+pub record SendPromise (b : Bench) (source group word : ℕ) (hops : List Hop) (r : SendReply) (left : Bench)
+    (hops-left : List Hop) : Type 0
   where
     -- turned away, whatever it was handed, it leaves the very same values
     pub refused : (number : ℕ) → sendAnswer r ≡ Refused number → (left ≡ b) × (hops-left ≡ hops)
@@ -76,7 +77,8 @@ pub record ArrivePromise (b : Bench) (hop : ℕ) (hops : List Hop) (book : List 
     (r : ArriveReply) (left : Bench) (hops-left : List Hop) (book-left : List ℕ) : Type 0 where
   pub refused : (number : ℕ) → arriveAnswer r ≡ Refused number → (left ≡ b) × (hops-left ≡ hops) × (book-left ≡ book)
   pub short : (length hops < 2000) ⊎ (length book < 6400) → arriveAnswer r ≡ Refused 1
-  pub rule : (P : Plan) → Planned P → (cs : List Call) → b ≡ benchOf P (after P cs) → OfHops (after P cs) hops → OfBook (after P cs) book
+  pub rule : (P : Plan) → Planned P → (cs : List Call) → b ≡ benchOf P (after P cs) → OfHops (after P cs) hops
+      → OfBook (after P cs) book
       → ArrivedAs P (arrive P hop (after P cs)) hops book r left hops-left book-left
 
 -- ---- rest
@@ -97,19 +99,21 @@ unfoldable pub lengthAnswer : LogAnswer → LengthAnswer
 lengthAnswer (LogRefused k) = LengthRefused k
 lengthAnswer (Log l) = Length (length l)
 
--- `part` is the part of the lent book from the row's start to the log's length
+-- `part` is what stands in the book from where the row starts, as long as the log
 pub record LogPromise (b : Bench) (unit : ℕ) (book part : List ℕ) : Type 0 where
   pub short : length book < 6400 → part ≡ []
   pub rule : (P : Plan) → Planned P → (cs : List Call) → b ≡ benchOf P (after P cs) → OfBook (after P cs) book
       → (part ≡ handedBack (log P unit (length book) (after P cs))) × (part ≡ take (length part) (drop (unit * 200) book))
 
--- and it is that part of the lent book itself: in the same block of memory, from the byte where the unit's row starts; the empty part that
+-- and it is a part of the caller's book: in the same block of memory, from the byte where the unit's row starts; the empty part that
 -- is handed back beside a refusal starts where the book does
 pub record LogPlace (b : Bench) (unit : ℕ) (book part : RefT (List ℕ)) : Type 0 where
   pub short : length (book .now) < 6400 → part .ptr ≡ book .ptr
-  pub refused : (P : Plan) → Planned P → (cs : List Call) → b ≡ benchOf P (after P cs) → OfBook (after P cs) (book .now) → P .units ≤ unit
+  pub refused : (P : Plan) → Planned P → (cs : List Call) → b ≡ benchOf P (after P cs)
+      → OfBook (after P cs) (book .now) → P .units ≤ unit
       → part .ptr ≡ book .ptr
-  pub rule : (P : Plan) → Planned P → (cs : List Call) → b ≡ benchOf P (after P cs) → OfBook (after P cs) (book .now) → unit < P .units
+  pub rule : (P : Plan) → Planned P → (cs : List Call) → b ≡ benchOf P (after P cs)
+      → OfBook (after P cs) (book .now) → unit < P .units
       → part .ptr ≡ (book .ptr .0, book .ptr .1 + 2 * (unit * 200))
 
 pub record LengthPromise (b : Bench) (unit : ℕ) (book : List ℕ) (r : LogReply) : Type 0 where

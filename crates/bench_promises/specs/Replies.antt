@@ -6,8 +6,8 @@ use Rattle.model.specs.Calls.{RestAnswer, RestRefused, Rest}
 use Rattle.bench_promises.specs.declared.replies.FreshReply.{FreshReply}
 use Rattle.bench_promises.specs.declared.replies.FreshReply.the-variants.{Made, ListTooShort as FreshTooShort}
 use Rattle.bench_promises.specs.declared.replies.SendReply.{SendReply}
-use Rattle.bench_promises.specs.declared.replies.SendReply.the-variants.{Sent as SentNumber, ListTooShort as SendTooShort, NoSuchUnit}
-use Rattle.bench_promises.specs.declared.replies.SendReply.the-variants.{NoSuchGroup, TooManyMessages, RoutesTooLong}
+use Rattle.bench_promises.specs.declared.replies.SendReply.the-variants.{Sent as SentNumber, ListTooShort as SendTooShort}
+use Rattle.bench_promises.specs.declared.replies.SendReply.the-variants.{NoSuchUnit, NoSuchGroup, TooManyMessages, RoutesTooLong}
 use Rattle.bench_promises.specs.declared.replies.ArriveReply.{ArriveReply}
 use Rattle.bench_promises.specs.declared.replies.ArriveReply.the-variants.{Taken as TakenNumber, Held as HeldHop}
 use Rattle.bench_promises.specs.declared.replies.ArriveReply.the-variants.{Repeat as RepeatedHop, ListTooShort as ArriveTooShort}

@@ -17,7 +17,7 @@ pub record Bench : Type 0 where
   pub tables : List ℕ
   -- the columns of the messages sent
   pub messages : List ℕ
-  -- the hops made and the hops taken of each ordered pair of units
+  -- the hops made and the hops taken, by sender and receiver
   pub pairs : List (List (List ℕ))
   -- the small numbers of each unit: the length of its log
   pub gauges : List ℕ
@@ -34,14 +34,14 @@ unfoldable pub joined : {A : Type 0} → ℕ → (ℕ → List A) → List A
 joined zero f = []
 joined (suc n) f = f 0 ++ joined n (λ i. f (suc i))
 
--- the 2,000 hop records; the 32 rows of 200 numbers
+-- the 2,000 hop records; the log book, 200 numbers to a row
 unfoldable pub hopRecords : Network → List Hop
 hopRecords W = padded 2000 noHop (hopsOf W)
 
 unfoldable pub logBook : Network → List ℕ
 logBook W = joined 32 (λ u. padded 200 0 (logOf u W))
 
--- a count for each ordered pair of units, sender by receiver
+-- a count for every two units, sender by receiver
 unfoldable pub pairTable : (ℕ → ℕ → ℕ) → List (List ℕ)
 pairTable f = tabulate 32 (λ s. tabulate 32 (f s))
 

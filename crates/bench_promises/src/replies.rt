@@ -1,4 +1,4 @@
-// The answers of the calls; specs/Replies.antt gives document 01's number and values for each case.
+// The answers of the calls; specs/Replies.antt gives document 01's number and the values of each case.
 
 pub enum FreshReply {
     Made,

@@ -54,7 +54,8 @@ same-grids (g ∷ gs) = λ i. same-grid g i ∷ same-grids gs i
 -- from the struct to its arrays, and back
 pub grids-is : (d : PairCounts) (vs : List Val) → Is T.the-row d vs → Is Grids (d .grids) (grids-vals (d .grids))
 grids-is d vs p =
-    subst (λ (gs : List (List (List ℕ))). Is Grids gs (grids-vals gs)) (same-grids (d .grids)) (LL.owed T.the-type T′.the-laws d vs p .0)
+    subst (λ (gs : List (List (List ℕ))). Is Grids gs (grids-vals gs)) (same-grids (d .grids))
+    (LL.owed T.the-type T′.the-laws d vs p .0)
 
 pub counts-is : (d : PairCounts) → Is Grids (d .grids) (grids-vals (d .grids)) → Is T.the-row d (counts-vals d)
 counts-is d p =

@@ -1,10 +1,10 @@
-// The log book (document 01): a list of numbers lent by the caller, 32 rows of 200, a row for each unit in order.
+// The log book (document 01): a list of numbers lent by the caller, 32 rows of 200, in the order of the units.
 use crate::Limits;
 ghost use mathlib.Core.Path.{_≡_};
 ghost use lib.ListN.{set};
 ghost use Rattle.bench_store.specs.Values.{logged, filled};
 
-// A message at the end of a unit's own row, which holds `length` so far.
+// A message goes behind the last in a unit's own row, which holds `length` so far.
 fn append(row: &mut [u16], length: usize, message: u16)
     ensures { λ _. ⌜ now (row .exit) ≡ set (now (row .entry)) length message ⌝ }
 {

@@ -1,5 +1,5 @@
-// For each ordered pair of units counts of hops (document 01): arrays of 32 arrays of 32 counts, sender by receiver. A bench keeps a list
-// of two: the hops made, and the hops taken.
+// Counts of hops by sender and receiver (document 01, "The bench, message by message"): arrays of 32 rows, one for each sender. A bench
+// keeps a list of two: the hops made, and the hops taken.
 use crate::Limits;
 use crate::plus;
 ghost use mathlib.Core.Path.{_≡_};

@@ -19,7 +19,7 @@ impl Limits {
 
     pub const HOPS: usize = 2000;
 
-    // The numbers of the log book: a row for each unit.
+    // The numbers of the log book: one row to a unit.
     pub const BOOK: usize = Limits::UNITS * Limits::MESSAGES;
 }
 

@@ -1,4 +1,5 @@
--- Contents and files say the same: events and their numbers, a good file and its well-formed content, each out of the other. Assumes nothing.
+-- Contents and files say the same: events and their numbers, a good file and its well-formed content, each out of the other. Assumes
+-- nothing.
 use mathlib.Core.Path.{_≡_, refl, sym, ap, ap₂, subst, _∙_}
 use mathlib.Core.Logic.{_⊎_, inl, inr, by-cases}
 use mathlib.Core.Bool.{Bool, true, false, true≢false, false≢true}
@@ -43,7 +44,8 @@ abbrev three {ℓ} : {B : Type ℓ} → (ℕ → ℕ → ℕ → B) → List ℕ
 three f ns k = f (getD ns (3 * k) 0) (getD ns (3 * k + 1) 0) (getD ns (3 * k + 2) 0)
 
 -- they are the same behind the numbers of another event
-behind {ℓ} : {B : Type ℓ} (f : ℕ → ℕ → ℕ → B) (a b c : ℕ) (ns : List ℕ) (k : ℕ) → three f (a ∷ b ∷ c ∷ ns) (suc k) ≡ three f ns k
+behind {ℓ} : {B : Type ℓ} (f : ℕ → ℕ → ℕ → B) (a b c : ℕ) (ns : List ℕ) (k : ℕ)
+    → three f (a ∷ b ∷ c ∷ ns) (suc k) ≡ three f ns k
 behind f a b c ns k =
     let p : 3 * suc k ≡ suc (suc (suc (3 * k))) = omega arith in
     let q : 3 * suc k + 1 ≡ suc (suc (suc (3 * k + 1))) = omega arith in
@@ -51,7 +53,8 @@ behind f a b c ns k =
     λ i. f (getD (a ∷ b ∷ c ∷ ns) (p i) 0) (getD (a ∷ b ∷ c ∷ ns) (q i) 0) (getD (a ∷ b ∷ c ∷ ns) (r i) 0)
 
 -- they are the same in a part that holds them
-held {ℓ} : {B : Type ℓ} (f : ℕ → ℕ → ℕ → B) (n : ℕ) (ns : List ℕ) (k : ℕ) → 3 * k + 2 < n → three f (take n ns) k ≡ three f ns k
+held {ℓ} : {B : Type ℓ} (f : ℕ → ℕ → ℕ → B) (n : ℕ) (ns : List ℕ) (k : ℕ) → 3 * k + 2 < n
+    → three f (take n ns) k ≡ three f ns k
 held f n ns k h =
     let p = getD-take n ns (3 * k) 0 (omega arith) in
     let q = getD-take n ns (3 * k + 1) 0 (omega arith) in
@@ -59,13 +62,15 @@ held f n ns k h =
     λ i. f (p i) (q i) (r i)
 
 -- good events are good numbers
-numbers-good : (es : List Event) (rest : List ℕ) (k : ℕ) → k < length es → GoodEvent (getD es k (Arrive 0)) → three GoodNumbers (numbersOf es ++ rest) k
+numbers-good : (es : List Event) (rest : List ℕ) (k : ℕ) → k < length es → GoodEvent (getD es k (Arrive 0))
+    → three GoodNumbers (numbersOf es ++ rest) k
 unfolding numbersOf eventNumbers
 numbers-good [] rest k h g = absurd (not-suc-le-zero h)
 numbers-good (Send s a w ∷ es) rest zero h g = (suc-le-suc (g .0), g .1, g .2, inl (suc-le-suc zero-le))
 numbers-good (Arrive b ∷ es) rest zero h g = (zero-lt-suc 65535, g, zero-lt-suc 65535, inr (refl, refl))
 numbers-good (Send s a w ∷ es) rest (suc k) h g =
-    subst (λ (T : Type 0). T) (sym (behind GoodNumbers (suc s) a w (numbersOf es ++ rest) k)) (numbers-good es rest k (le-of-suc-le-suc h) g)
+    subst (λ (T : Type 0). T) (sym (behind GoodNumbers (suc s) a w (numbersOf es ++ rest) k))
+    (numbers-good es rest k (le-of-suc-le-suc h) g)
 numbers-good (Arrive b ∷ es) rest (suc k) h g =
     subst (λ (T : Type 0). T) (sym (behind GoodNumbers 0 b 0 (numbersOf es ++ rest) k)) (numbers-good es rest k (le-of-suc-le-suc h) g)
 
@@ -91,7 +96,8 @@ length-events (suc k) (a ∷ b ∷ []) h = omega arith
 length-events (suc k) (a ∷ b ∷ c ∷ ns) h = ap suc (length-events k ns (omega arith))
 
 -- event j of k
-event-at : (k : ℕ) (ns : List ℕ) (j : ℕ) → 3 * k ≤ length ns → j < k → getD (eventsFrom k ns) j (Arrive 0) ≡ three eventOf ns j
+event-at : (k : ℕ) (ns : List ℕ) (j : ℕ) → 3 * k ≤ length ns → j < k
+    → getD (eventsFrom k ns) j (Arrive 0) ≡ three eventOf ns j
 unfolding eventsFrom
 event-at zero ns j h b = absurd (not-suc-le-zero b)
 event-at (suc k) [] j h b = absurd (omega arith)
@@ -101,7 +107,8 @@ event-at (suc k) (x ∷ y ∷ z ∷ ns) zero h b = refl
 event-at (suc k) (x ∷ y ∷ z ∷ ns) (suc j) h b = event-at k ns j (omega arith) (le-of-suc-le-suc b) ∙ sym (behind eventOf x y z ns j)
 
 -- the numbers of k events read out of good numbers are these
-numbers-from : (k : ℕ) (ns : List ℕ) → 3 * k ≤ length ns → ((j : ℕ) → j < k → three GoodNumbers ns j) → numbersOf (eventsFrom k ns) ≡ take (3 * k) ns
+numbers-from : (k : ℕ) (ns : List ℕ) → 3 * k ≤ length ns → ((j : ℕ) → j < k → three GoodNumbers ns j)
+    → numbersOf (eventsFrom k ns) ≡ take (3 * k) ns
 unfolding eventsFrom numbersOf
 numbers-from zero ns h g = refl
 numbers-from (suc k) [] h g = absurd (omega arith)
@@ -128,7 +135,8 @@ module _ (n d : ℕ) where
       ext-getD d (take (length l) t) l e (λ i b. getD-take (length l) t i d (omega arith) ∙ table-at l i h)
 
   -- n entries with d from k on are the table of the first k
-  table-back : (l : List ℕ) (k : ℕ) → length l ≡ n → ((i : ℕ) → k ≤ i → getD l i d ≡ d) → tabulate n (λ i. getD (take k l) i d) ≡ l
+  table-back : (l : List ℕ) (k : ℕ) → length l ≡ n → ((i : ℕ) → k ≤ i → getD l i d ≡ d)
+      → tabulate n (λ i. getD (take k l) i d) ≡ l
   table-back l k e h = sym (tabulated n (λ i. getD (take k l) i d) l d e (λ i b.
       by-cases (decLt i k) (λ c. sym (getD-take k l i d c))
       (λ c. h i (omega arith) ∙ sym (List·getD-eq-default (take k l) d (omega (arith, length-take k l))))))
@@ -138,7 +146,8 @@ module _ (n d : ℕ) where
 parents-back : (n : ℕ) (p : Parents) → n ≤ 32 → GoodParents n p → parentsSaid (isBuild p) (take n (parentsTable p)) ≡ p
 unfolding parentsSaid isBuild parentsTable
 parents-back n Build h g = refl
-parents-back n (Drawn ps) h (e, f) = ap Drawn (ap (λ (k : ℕ). take k (tabulate 32 (λ u. getD ps u 255))) (sym e) ∙ table-front 32 255 ps (omega arith))
+parents-back n (Drawn ps) h (e, f) = ap Drawn (ap (λ (k : ℕ). take k (tabulate 32 (λ u. getD ps u 255))) (sym e)
+    ∙ table-front 32 255 ps (omega arith))
 
 parents-places : (p : Parents) → length (parentsTable p) ≡ 32
 unfolding parentsTable
@@ -152,7 +161,8 @@ parents-drawn n Build h g b u l = absurd (true≢false b)
 parents-drawn n (Drawn ps) h (e, f) b u l =
     subst (λ (x : ℕ). (x ≡ 255) ⊎ (x < n)) (sym (table-at 32 255 ps u (omega arith))) (f u l)
 
-parents-undrawn : (n : ℕ) (p : Parents) → n ≤ 32 → GoodParents n p → (u : ℕ) → (isBuild p ≡ true) ⊎ (n ≤ u) → getD (parentsTable p) u 255 ≡ 255
+parents-undrawn : (n : ℕ) (p : Parents) → n ≤ 32 → GoodParents n p → (u : ℕ) → (isBuild p ≡ true) ⊎ (n ≤ u)
+    → getD (parentsTable p) u 255 ≡ 255
 unfolding isBuild parentsTable
 parents-undrawn n Build h g u b = table-at 32 255 [] u zero-le
 parents-undrawn n (Drawn ps) h (e, f) u (inl b) = absurd (false≢true b)
@@ -160,7 +170,8 @@ parents-undrawn n (Drawn ps) h (e, f) u (inr l) = table-at 32 255 ps u (omega ar
 
 -- and back: what a content's parents say
 said-good : (n : ℕ) (b : Bool) (ps : List ℕ) → n ≤ length ps
-    → (b ≡ false → (u : ℕ) → u < n → (getD ps u 255 ≡ 255) ⊎ (getD ps u 255 < n)) → GoodParents n (parentsSaid b (take n ps))
+    → (b ≡ false → (u : ℕ) → u < n → (getD ps u 255 ≡ 255) ⊎ (getD ps u 255 < n))
+    → GoodParents n (parentsSaid b (take n ps))
 unfolding parentsSaid
 said-good n true ps h f = tt
 said-good n false ps h f =
@@ -254,4 +265,5 @@ module _ (c : Content) (events : List ℕ) (w : WellFormed c events) where
   -- the numbers of the file's events stand at the front of the list
   pub numbers-back : numbersOf (fileOf c (take 9000 events) .events) ≡ take (3 * c .events) events
   unfolding fileOf
-  numbers-back = numbers-from (c .events) (take 9000 events) fits good-at ∙ take-take (3 * c .events) 9000 events (let h = w .total in omega arith)
+  numbers-back = numbers-from (c .events) (take 9000 events) fits good-at
+      ∙ take-take (3 * c .events) 9000 events (let h = w .total in omega arith)

@@ -40,7 +40,8 @@ tests-later true b c = refl
 tests-later false true c = refl
 tests-later false false c = refl
 
-event-later : (k : ℕ) (line : List ℕ) → eventFault k line ≡ cond (eqb (eventFault 0 line) 0) (refuse (leb 3000 k) 9 0) (eventFault 0 line)
+event-later : (k : ℕ) (line : List ℕ) → eventFault k line ≡ cond (eqb (eventFault 0 line) 0)
+    (refuse (leb 3000 k) 9 0) (eventFault 0 line)
 unfolding eventFault
 event-later k line = tests-later _ _ (leb 3000 k)
 
@@ -49,7 +50,8 @@ module _ {rest : List ℕ} {f used : ℕ} (r : LineRead (eventFault 0) rest f us
   later-is : faultAt (eventFault k) rest ≡ cond (eqb f 0) (refuse (leb 3000 k) 9 0) f
   later-is = rw (r .is) (by-cases (decLt (placeOf 10 rest) (length rest))
       (λ h. rw (fault-line (eventFault k) rest h, fault-line (eventFault 0) rest h) (event-later k (firstLine rest)))
-      (λ h. let l : length rest ≤ placeOf 10 rest = omega arith in rw (fault-none (eventFault k) rest l, fault-none (eventFault 0) rest l)))
+      (λ h. let l : length rest ≤ placeOf 10 rest = omega arith in rw
+      (fault-none (eventFault k) rest l, fault-none (eventFault 0) rest l)))
 
   later-fault : (f ≡ 0 → ⊥) → LineRead (eventFault k) rest f used
   later-fault b = record { is = sym (later-is ∙ simp (ne-eqb f 0 b)); takes = r .takes }
@@ -96,7 +98,8 @@ numbers-append : (es ds : List Event) → numbersOf (es ++ ds) ≡ numbersOf es 
 unfolding numbersOf
 numbers-append [] ds = refl
 numbers-append (e ∷ es) ds =
-    ap (λ (ns : List ℕ). eventNumbers e ++ ns) (numbers-append es ds) ∙ sym (append-assoc (eventNumbers e) (numbersOf es) (numbersOf ds))
+    ap (λ (ns : List ℕ). eventNumbers e ++ ns) (numbers-append es ds)
+    ∙ sym (append-assoc (eventNumbers e) (numbersOf es) (numbersOf ds))
 
 module _ {rest list : List ℕ} {at count next : ℕ} {left : List ℕ} (so : ReadSoFar rest list at count next left) where
   -- the end of the file
@@ -114,7 +117,8 @@ module _ {rest list : List ℕ} {at count next : ℕ} {left : List ℕ} (so : Re
     answer = event-read (drop at rest) (rw rest-is at e)
 
     line-due : (k n : ℕ) (gs : List ℕ) (ps : Parents)
-        → Due k (drop at rest) (EventDue n gs ps (so .events)) (eventFault count) (λ x. EventDue n gs ps (so .events ++ eventIn x ∷ []))
+        → Due k (drop at rest) (EventDue n gs ps (so .events)) (eventFault count)
+        (λ x. EventDue n gs ps (so .events ++ eventIn x ∷ []))
     line-due k n gs ps = rw (so .many) at (event-due k (drop at rest) (omega (arith, length-drop at rest)) n gs ps (so .events))
 
     refused-with : {f used : ℕ} → LineRead (eventFault count) (drop at rest) f used → (f ≡ 0 → ⊥)
@@ -138,7 +142,8 @@ module _ {rest list : List ℕ} {at count next : ℕ} {left : List ℕ} (so : Re
       line-inside = omega (arith, so .inside, answer .0 .takes z, read-inside (answer .0) z, length-drop at rest)
 
       -- one event more
-      pub line-good : count < 3000 → {place : ℕ} {last : List ℕ} → Written (line .first ∷ line .second ∷ line .third ∷ []) next left place last
+      pub line-good : count < 3000 → {place : ℕ} {last : List ℕ}
+          → Written (line .first ∷ line .second ∷ line .third ∷ []) next left place last
           → ReadSoFar rest list (at + line .used) (count + 1) place last
       unfolding numbersOf
       line-good h w = record {
@@ -167,7 +172,8 @@ module _ {rest kept mid list : List ℕ} {tally : Tally} (r : EventsRead rest ta
     stays = λ b. absurd (b z);
   }
     where
-      copied : (es : List Event) → length es ≡ tally .count → NumbersPut kept mid es → 9000 ≤ length kept → Written (numbersOf es) 0 list place left
+      copied : (es : List Event) → length es ≡ tally .count → NumbersPut kept mid es → 9000 ≤ length kept
+          → Written (numbersOf es) 0 list place left
       copied es many put room =
           let long : length (numbersOf es) ≡ 3 * tally .count = numbers-length es ∙ ap (λ (k : ℕ). 3 * k) many in
           let held = written-fits (put .1) (omega (arith, r .few)) .1 in

@@ -4,9 +4,9 @@ use mathlib.Core.List.{List, [], _∷_}
 use Prim.Native.Nat.{ℕ}
 use Rattle.text.specs.Text.{isBad, digit, number, decimalWithin, decimal, inFront, split, join, startsWith, after, isWord, some}
 use Rattle.sets.specs.Sets.{member, including, single, union}
-use Rattle.lines.specs.Lines.{refuse, unitsKey, groupsKey, groupKey, parentsKey, sendKey, arriveKey, buildWord, rootWord, commas, numbersIn}
-use Rattle.lines.specs.Lines.{countIn, countFault, unitsFault, groupsFault, countLine, risesFrom, groupIn, groupFault, membersFrom, groupLine}
-use Rattle.lines.specs.Lines.{Drawn, entry, entriesIn, parentOf, parentsIn, parentsFault, parentText, parentsLine}
+use Rattle.lines.specs.Lines.{refuse, unitsKey, groupsKey, groupKey, parentsKey, sendKey, arriveKey, buildWord, rootWord, commas}
+use Rattle.lines.specs.Lines.{numbersIn, countIn, countFault, unitsFault, groupsFault, countLine, risesFrom, groupIn, groupFault}
+use Rattle.lines.specs.Lines.{membersFrom, groupLine, Drawn, entry, entriesIn, parentOf, parentsIn, parentsFault, parentText, parentsLine}
 use Rattle.lines.specs.Lines.{Send, Arrive, badSend, eventFault, eventIn, eventLine}
 use Rattle.benchfile.specs.File.{File, Refused, Good, next, step, finish, steps, readFile, linesOf, ended, textOf}
 
@@ -85,7 +85,8 @@ pub record Examples : Type 0 where
 
 pub examples : Examples
 unfolding isBad digit number decimalWithin decimal inFront split join startsWith after isWord some member including single union refuse
-    unitsKey groupsKey groupKey parentsKey sendKey arriveKey buildWord rootWord commas numbersIn countIn countFault unitsFault groupsFault countLine
+    unitsKey groupsKey groupKey parentsKey sendKey arriveKey buildWord rootWord commas numbersIn countIn countFault
+    unitsFault groupsFault countLine
     risesFrom groupIn groupFault membersFrom groupLine entry entriesIn parentOf parentsIn parentsFault parentText parentsLine badSend
     eventFault eventIn eventLine next step finish steps readFile linesOf ended textOf
 examples = record {

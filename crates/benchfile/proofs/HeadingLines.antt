@@ -34,7 +34,8 @@ module _ (k : ℕ) (rest : List ℕ) where
   unfolding step finish groupsFault
   groups-due n = record { reads = λ line. refl; number = count-fault-number groupsKey 0 24; missing = refl }
 
-  group-due : (n due : ℕ) (gs : List ℕ) → Due k rest (GroupDue n (suc due) gs) (groupFault n) (λ line. GroupDue n due (gs ++ groupIn line ∷ []))
+  group-due : (n due : ℕ) (gs : List ℕ) → Due k rest (GroupDue n (suc due) gs) (groupFault n)
+      (λ line. GroupDue n due (gs ++ groupIn line ∷ []))
   unfolding step finish
   group-due n due gs = record { reads = λ line. refl; number = group-fault-number n; missing = refl }
 
@@ -97,7 +98,10 @@ module _ (file : List ℕ) (first : Field) (e : first ≡ fieldAt unitsFault (co
           inside = second-inside;
           count = second-most;
           goes = λ _. first-goes
-              ∙ rw (← drop-drop (second .used) (first .used) file, field-read groupsFault (countIn groupsKey) (drop (first .used) file) second-is .1 y)
+              ∙ rw (
+                ← drop-drop (second .used) (first .used) file,
+                field-read groupsFault (countIn groupsKey) (drop (first .used) file) second-is .1 y,
+              )
               (read-good second-line (groups-due 2 (drop (first .used) file) (first .value)) y);
         }
 
@@ -125,7 +129,8 @@ groups-none rest units count = record {
 }
 
 module _ {rest : List ℕ} {units count at i : ℕ} {found : List ℕ} (so : GroupsSoFar rest units count at i found) where
-  module _ (more : i < count) (line : Field) (e : line ≡ fieldAt (groupFault units) groupIn (take (length rest - at) (drop at rest))) where
+  module _ (more : i < count) (line : Field) (e : line ≡ fieldAt (groupFault units) groupIn
+      (take (length rest - at) (drop at rest))) where
     group-is : line ≡ fieldAt (groupFault units) groupIn (drop at rest)
     group-is = rw rest-is at e
 
@@ -139,7 +144,8 @@ module _ {rest : List ℕ} {units count at i : ℕ} {found : List ℕ} (so : Gro
     pub group-inside : line .fault ≡ 0 → at + line .used ≤ length rest
     group-inside z = omega (arith, so .inside, read-inside group-line z, length-drop at rest)
 
-    pub groups-refused : (line .fault ≡ 0 → ⊥) → GroupsRead rest units count (record { fault = line .fault; read = i; at = at; sets = found })
+    pub groups-refused : (line .fault ≡ 0 → ⊥) → GroupsRead rest units count
+        (record { fault = line .fault; read = i; at = at; sets = found })
     groups-refused b = record {
       refused = λ _ k. rw (one-due k) (read-fault group-line (group-due (k + i) (drop at rest) units (count - suc i) (so .groups)) b);
       inside = so .inside;
@@ -147,7 +153,8 @@ module _ {rest : List ℕ} {units count at i : ℕ} {found : List ℕ} (so : Gro
       goes = λ z. absurd (b z);
     }
 
-    pub groups-turn : line .fault ≡ 0 → {next : List ℕ} → next ≡ set found i (line .value) → GroupsSoFar rest units count (at + line .used) (i + 1) next
+    pub groups-turn : line .fault ≡ 0 → {next : List ℕ} → next ≡ set found i (line .value)
+        → GroupsSoFar rest units count (at + line .used) (i + 1) next
     groups-turn z {next} n =
         let v = field-read (groupFault units) groupIn (drop at rest) group-is .1 z in
         let s = groupIn (firstLine (drop at rest)) in record {
@@ -253,7 +260,8 @@ module _ {file : List ℕ} {first : Counts} (h : CountsRead file first) (z : fir
               },
               drawing-due ∙ rw (← drop-drop (drawing .used) (first .at + found .at) file)
                   (read-good drawing-line (parents-due (3 + first .count) _ (first .units) gs) x
-                  ∙ ap (λ (n : ℕ). steps n (split 10 (drop (drawing .used) (drop (first .at + found .at) file))) (EventDue (first .units) gs ps []))
+                  ∙ ap (λ (n : ℕ). steps n (split 10 (drop (drawing .used) (drop (first .at + found .at) file)))
+                  (EventDue (first .units) gs ps []))
                   (omega arith)),
             );
           }

@@ -115,7 +115,8 @@ field-read fault value rest {r} e =
     let said = read-of fault rest (λ (x : Field). x .fault) (λ (x : Field). x .used) _ noField e refl refl (λ n. refl) in
     (said .0, λ z. ap (λ (x : Field). x .value) (said .1 z))
 
-pub count-most : (key : List ℕ) (least most : ℕ) (rest : List ℕ) {r : Field} → r ≡ fieldAt (countFault key least most) (countIn key) rest
+pub count-most : (key : List ℕ) (least most : ℕ) (rest : List ℕ) {r : Field}
+    → r ≡ fieldAt (countFault key least most) (countIn key) rest
     → r .fault ≡ 0 → r .value ≤ most
 count-most key least most rest e z =
     let said = field-read (countFault key least most) (countIn key) rest e in
@@ -123,10 +124,12 @@ count-most key least most rest e z =
 
 pub drawing-read : (n : ℕ) (rest : List ℕ) {r : Drawing} → r ≡ drawingAt n rest
     → LineRead (parentsFault n) rest (r .fault) (r .used)
-    × (r .fault ≡ 0 → (r .build ≡ isBuild (parentsIn (firstLine rest))) × (r .parents ≡ parentsTable (parentsIn (firstLine rest))))
+    × (r .fault ≡ 0 → (r .build ≡ isBuild (parentsIn (firstLine rest)))
+    × (r .parents ≡ parentsTable (parentsIn (firstLine rest))))
 unfolding drawingAt noDrawing
 drawing-read n rest {r} e =
-    let said = read-of (parentsFault n) rest (λ (x : Drawing). x .fault) (λ (x : Drawing). x .used) _ (λ f. noDrawing f 0 false) e refl refl (λ f. refl) in
+    let said = read-of (parentsFault n) rest (λ (x : Drawing). x .fault) (λ (x : Drawing). x .used) _ (λ f. noDrawing f 0 false) e
+    refl refl (λ f. refl) in
     (said .0, λ z. (ap (λ (x : Drawing). x .build) (said .1 z), ap (λ (x : Drawing). x .parents) (said .1 z)))
 
 pub event-read : (rest : List ℕ) {r : EventField} → r ≡ eventAt rest
@@ -134,7 +137,8 @@ pub event-read : (rest : List ℕ) {r : EventField} → r ≡ eventAt rest
     × (r .fault ≡ 0 → eventNumbers (eventIn (firstLine rest)) ≡ r .first ∷ r .second ∷ r .third ∷ [])
 unfolding eventAt noEvent
 event-read rest {r} e =
-    let said = read-of (eventFault 0) rest (λ (x : EventField). x .fault) (λ (x : EventField). x .used) _ noEvent e refl refl (λ n. refl) in (
+    let said = read-of (eventFault 0) rest (λ (x : EventField). x .fault) (λ (x : EventField). x .used) _ noEvent e
+    refl refl (λ n. refl) in (
       said .0,
       λ z. three-numbers _ (numbers-three (eventIn (firstLine rest)))
           ∙ sym (ap (λ (x : EventField). x .first ∷ x .second ∷ x .third ∷ []) (said .1 z)),

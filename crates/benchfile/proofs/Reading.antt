@@ -22,7 +22,8 @@ use Rattle.benchfile.specs.declared.events.Tally.{Tally}
 use Rattle.benchfile.proofs.Contents.{numbers-length}
 
 -- turned away: the list stays
-turned : {file list : List ℕ} {r : ReadAnswer} {reply : ReadReply} {refusal : List ℕ} → readFile (length list) file ≡ Refused refusal
+turned : {file list : List ℕ} {r : ReadAnswer} {reply : ReadReply} {refusal : List ℕ}
+    → readFile (length list) file ≡ Refused refusal
     → readAnswer reply ≡ TurnedAway refusal → (r .reply ≡ reply) × (r .content ≡ noContent) → ReadPromise file list r list
 unfolding readSays readContent readLeaves
 turned e a (reply, content) = record {
@@ -32,12 +33,14 @@ turned e a (reply, content) = record {
 }
 
 module _ (file list : List ℕ) where
-  pub too-short : length list < 9000 → {r : ReadAnswer} → (r .reply ≡ ListTooShort) × (r .content ≡ noContent) → ReadPromise file list r list
+  pub too-short : length list < 9000 → {r : ReadAnswer} → (r .reply ≡ ListTooShort) × (r .content ≡ noContent)
+      → ReadPromise file list r list
   unfolding readFile refuse readAnswer
   too-short h facts = turned (simp (lt-ltb (length list) 9000 h)) refl facts
 
   module _ (lent : 9000 ≤ length list) where
-    pub too-long : 32768 < length file → {r : ReadAnswer} → (r .reply ≡ FileTooLong) × (r .content ≡ noContent) → ReadPromise file list r list
+    pub too-long : 32768 < length file → {r : ReadAnswer} → (r .reply ≡ FileTooLong) × (r .content ≡ noContent)
+        → ReadPromise file list r list
     unfolding readFile refuse readAnswer
     too-long h facts = turned (simp (le-ltb (length list) 9000 lent, lt-ltb 32768 (length file) h)) refl facts
 
@@ -48,7 +51,8 @@ module _ (file list : List ℕ) where
 
       -- by the fault of a line
       pub line-turned : {f k : ℕ} → BadLine (steps 1 (split 10 file) UnitsDue) f k → {reply : ReadReply} {r : ReadAnswer}
-          → (3 ≤ f → f ≤ 9 → readAnswer reply ≡ TurnedAway (f ∷ k ∷ [])) → (r .reply ≡ reply) × (r .content ≡ noContent) → ReadPromise file list r list
+          → (3 ≤ f → f ≤ 9 → readAnswer reply ≡ TurnedAway (f ∷ k ∷ []))
+          → (r .reply ≡ reply) × (r .content ≡ noContent) → ReadPromise file list r list
       line-turned bad said facts = turned (by-steps ∙ bad .ends) (said (bad .low) (bad .high)) facts
 
       -- the events behind the heading
@@ -58,12 +62,14 @@ module _ (file list : List ℕ) where
         stored = rw rest-is at part
 
         pub events-turned : (tally .fault ≡ 0 → ⊥) → {reply : ReadReply} {r : ReadAnswer}
-            → (3 ≤ tally .fault → tally .fault ≤ 9 → readAnswer reply ≡ TurnedAway (tally .fault ∷ (head .line + tally .count) ∷ []))
+            → (3 ≤ tally .fault → tally .fault ≤ 9 → readAnswer reply
+            ≡ TurnedAway (tally .fault ∷ (head .line + tally .count) ∷ []))
             → (r .reply ≡ reply) × (r .content ≡ noContent) → ReadPromise file list r left
         events-turned b said facts =
             rw (stored .stays b) (line-turned (rw (h .goes z .5) (stored .read .refused b (head .line) _ _ _)) said facts)
 
-        pub file-read : 9000 ≤ length kept → tally .fault ≡ 0 → {content : Content} → content ≡ withEvents (head .content) (tally .count)
+        pub file-read : 9000 ≤ length kept → tally .fault ≡ 0 → {content : Content}
+            → content ≡ withEvents (head .content) (tally .count)
             → ReadPromise file list (record { reply = Read (3 * tally .count) (head .line - 1); content = content }) left
         unfolding readAnswer readSays readContent readLeaves withEvents contentOf
         file-read room y {content} e =

@@ -1,4 +1,5 @@
--- A bench file that is read and one that is written: every good file is written again as it was, and everything that a file can say is read back.
+-- A bench file that is read and one that is written: every good file is written again as it was, and everything that a file can say is read
+-- back.
 use mathlib.Core.Path.{_≡_, refl, sym, ap, _∙_}
 use mathlib.Core.Bool.{Bool, true, false}
 use mathlib.Core.List.{List, [], _∷_, _++_, map, append-nil, append-assoc, map-append}
@@ -11,8 +12,8 @@ use lib.Dec.{ltb}
 use borrow.Author.Tests.{ltb-false, le-ltb}
 use Rattle.text.specs.Text.{split, join}
 use Rattle.text.proofs.Pieces.{AllWithout, none, more, split-append, join-split}
-use Rattle.lines.specs.Lines.{refuse, unitsKey, groupsKey, countIn, unitsFault, groupsFault, groupFault, groupIn, parentsFault, parentsIn, eventFault, eventIn}
-use Rattle.lines.specs.Lines.{countLine, groupLine, parentsLine, eventLine, Event, Arrive}
+use Rattle.lines.specs.Lines.{refuse, unitsKey, groupsKey, countIn, unitsFault, groupsFault, groupFault, groupIn, parentsFault, parentsIn}
+use Rattle.lines.specs.Lines.{eventFault, eventIn, countLine, groupLine, parentsLine, eventLine, Event, Arrive}
 use Rattle.lines.specs.Good.{GoodGroup, GoodEvent}
 use Rattle.lines.proofs.Values.{map-without, texts-without}
 use Rattle.lines.proofs.RoundTrip.{count-said, group-said, parents-said, event-said, count-read, group-read, parents-read, event-read}
@@ -59,7 +60,8 @@ if-map : {P Q : File → Type 0} → ((F : File) → P F → Q F) → (o : Outco
 if-map f (Refused refusal) h = tt
 if-map f (Good F) h = f F h
 
-refuse-if : (P : File → Type 0) (b : Bool) (refusal : List ℕ) (o : Outcome) → (b ≡ false → IfGood P o) → IfGood P (refuse b (Refused refusal) o)
+refuse-if : (P : File → Type 0) (b : Bool) (refusal : List ℕ) (o : Outcome) → (b ≡ false → IfGood P o)
+    → IfGood P (refuse b (Refused refusal) o)
 unfolding refuse
 refuse-if P true refusal o h = tt
 refuse-if P false refusal o h = h refl
@@ -87,7 +89,8 @@ unfolding next
 reached-next ls zero k s h = h refl
 reached-next ls (suc f) k s h = tt
 
-reached-step : (k : ℕ) (ls : List (List ℕ)) (line : List ℕ) (s : State) → Reached ls s → Reached (ls ++ line ∷ []) (step k line s)
+reached-step : (k : ℕ) (ls : List (List ℕ)) (line : List ℕ) (s : State) → Reached ls s
+    → Reached (ls ++ line ∷ []) (step k line s)
 unfolding step unitsFault groupsFault linesOf
 reached-step k ls line UnitsDue e =
     reached-next (ls ++ line ∷ []) (unitsFault line) k (GroupsDue (countIn unitsKey line)) (λ h.
@@ -154,7 +157,8 @@ steps-said k [] ls s r = finish-said k [] ls s r
 steps-said k (rest ∷ []) ls s r = finish-said k rest ls s r
 steps-said k (line ∷ l ∷ pieces) ls s r =
     let rest = join 10 (l ∷ pieces) in
-    let e : ended (ls ++ line ∷ []) ++ rest ≡ ended ls ++ (line ++ 10 ∷ rest) = rw (ended-append ls (line ∷ [])) (simp append-assoc) in
+    let e : ended (ls ++ line ∷ []) ++ rest ≡ ended ls ++ (line ++ 10 ∷ rest) = rw
+    (ended-append ls (line ∷ [])) (simp append-assoc) in
     rw (← e) (steps-said (suc k) (l ∷ pieces) (ls ++ line ∷ []) (step k line s) (reached-step k ls line s r))
 
 read-said : (lent : ℕ) (file : List ℕ)
@@ -162,7 +166,8 @@ read-said : (lent : ℕ) (file : List ℕ)
 unfolding readFile ended
 read-said lent file =
     refuse-if _ (ltb lent 9000) (1 ∷ []) _ (λ a. refuse-if _ (ltb 32768 (length file)) (2 ∷ 0 ∷ []) _ (λ b.
-    if-map (λ F r. (r .0 ∙ join-split 10 file, r .1, ltb-false lent 9000 a, ltb-false 32768 (length file) b)) (steps 1 (split 10 file) UnitsDue)
+    if-map (λ F r. (r .0 ∙ join-split 10 file, r .1, ltb-false lent 9000 a, ltb-false 32768 (length file) b))
+    (steps 1 (split 10 file) UnitsDue)
     (steps-said 1 (split 10 file) [] UnitsDue refl)))
 
 module _ (lent : ℕ) (file : List ℕ) (F : File) (e : readFile lent file ≡ Good F) where
@@ -191,7 +196,8 @@ lines-without F =
 abbrev Leads : List (List ℕ) → State → File → Type 0
 Leads ls s F = (k : ℕ) → steps k (ls ++ [] ∷ []) s ≡ Good F
 
-leads-line : (line : List ℕ) (ls : List (List ℕ)) (s t : State) (F : File) → ((k : ℕ) → step k line s ≡ t) → Leads ls t F → Leads (line ∷ ls) s F
+leads-line : (line : List ℕ) (ls : List (List ℕ)) (s t : State) (F : File) → ((k : ℕ) → step k line s ≡ t) → Leads ls t F
+    → Leads (line ∷ ls) s F
 unfolding steps
 leads-line line [] s t F e h k = rw (e k) (h (suc k))
 leads-line line (l ∷ ls) s t F e h k = rw (e k) (h (suc k))
@@ -201,11 +207,13 @@ module _ (F : File) (good : GoodFile F) where
       → Leads (map eventLine rest) (EventDue (F .units) (F .groups) (F .parents) es) F
   unfolding steps finish step next
   events-lead es [] e h =
-      λ k. ap (λ (vs : List Event). Good (record { units = F .units; groups = F .groups; parents = F .parents; events = vs })) (sym (append-nil es) ∙ e)
+      λ k. ap (λ (vs : List Event). Good (record { units = F .units; groups = F .groups; parents = F .parents; events = vs }))
+      (sym (append-nil es) ∙ e)
   events-lead es (v ∷ rest) e h =
       let l : length es < 3000 = omega (arith, good .total, length-append es (v ∷ rest), ap length e) in
       let c = event-read (length es) v l (h 0 (suc-le-suc zero-le))
-      in leads-line (eventLine v) (map eventLine rest) _ (EventDue (F .units) (F .groups) (F .parents) (es ++ v ∷ [])) F (λ k. rw (c .0, c .1))
+      in leads-line (eventLine v) (map eventLine rest) _ (EventDue (F .units) (F .groups) (F .parents) (es ++ v ∷ [])) F
+      (λ k. rw (c .0, c .1))
       (events-lead (es ++ v ∷ []) rest (append-snoc es v rest ∙ e) (all-tail GoodEvent (Arrive 0) v rest h))
 
   groups-lead : (gs rest : List ℕ) → gs ++ rest ≡ F .groups → All (GoodGroup (F .units)) 0 rest
@@ -232,7 +240,8 @@ module _ (F : File) (good : GoodFile F) where
       (leads-line (countLine groupsKey count) rest (GroupsDue n) (GroupDue n count []) F (λ k. rw (g .0, g .1))
       (groups-lead [] (F .groups) refl (good .group)))
 
-pub text-read : (lent : ℕ) (F : File) → GoodFile F → 9000 ≤ lent → length (textOf F) ≤ 32768 → readFile lent (textOf F) ≡ Good F
+pub text-read : (lent : ℕ) (F : File) → GoodFile F → 9000 ≤ lent → length (textOf F) ≤ 32768
+    → readFile lent (textOf F) ≡ Good F
 unfolding readFile refuse textOf
 text-read lent F good enough short =
     rw (le-ltb lent 9000 enough, le-ltb 32768 (length (textOf F)) short)

@@ -1,5 +1,5 @@
--- What the promises of `read` and `write` say together: what is read and written again is the same bytes, what is written and read again is the
--- same content and events. Assumes nothing.
+-- What the promises of `read` and `write` say together: what is read and written again is the same bytes, what is written and read again is
+-- the same content and events. Assumes nothing.
 use mathlib.Core.Path.{_≡_, refl, sym, ap, ap₂, subst, _∙_}
 use mathlib.Core.Bool.{Bool, false, _||_}
 use mathlib.Core.List.{List, _++_}
@@ -9,8 +9,8 @@ use borrow.Author.Tests.{le-ltb}
 use lib.ListN.{length, take, drop}
 use lib.Seq.{take-append-add, take-append-seam, take-all}
 use Rattle.benchfile.specs.File.{File, Outcome, Refused, Good, readFile, textOf}
-use Rattle.benchfile.specs.Calls.{ReadNumbers, WroteBytes, readAnswer, writeAnswer, numbersOf, contentOf, fileOf}
-use Rattle.benchfile.specs.Calls.{readSays, readContent, readLeaves, written, writeShort, writeSays, writeLeaves, ReadPromise, WritePromise}
+use Rattle.benchfile.specs.Calls.{ReadNumbers, WroteBytes, readAnswer, writeAnswer, numbersOf, contentOf, fileOf, readSays}
+use Rattle.benchfile.specs.Calls.{readContent, readLeaves, written, writeShort, writeSays, writeLeaves, ReadPromise, WritePromise}
 use Rattle.benchfile.specs.Claims.{WellFormed}
 use Rattle.benchfile.specs.declared.Content.{Content}
 use Rattle.benchfile.specs.declared.ReadAnswer.{ReadAnswer}
@@ -24,12 +24,14 @@ unfolding readSays
 good-outcome (Refused refusal) n line h = let z : _≡_ {A = ℕ} 0 1 = cc in absurd (omega arith)
 good-outcome (Good F) n line h = (F, refl)
 
-read-good-file : {file events left : List ℕ} {a : ReadAnswer} {n line : ℕ} → ReadPromise file events a left → readAnswer (a .reply) ≡ ReadNumbers n line
+read-good-file : {file events left : List ℕ} {a : ReadAnswer} {n line : ℕ} → ReadPromise file events a left
+    → readAnswer (a .reply) ≡ ReadNumbers n line
     → (F : File) × (readFile (length events) file ≡ Good F)
 read-good-file {file} {events} {left} {a} {n} {line} p h = good-outcome (readFile (length events) file) n line (sym (p .answers) ∙ h)
 
 -- `read` where the file is good
-module _ {file events left : List ℕ} {a : ReadAnswer} {F : File} (p : ReadPromise file events a left) (e : readFile (length events) file ≡ Good F) where
+module _ {file events left : List ℕ} {a : ReadAnswer} {F : File} (p : ReadPromise file events a left)
+    (e : readFile (length events) file ≡ Good F) where
   -- every file that the rules call good is read: the answer of no other
   pub good-read : readAnswer (a .reply) ≡ ReadNumbers (3 * length (F .events)) (3 + length (F .groups))
   unfolding readSays
@@ -63,7 +65,8 @@ module _ {c : Content} {events out text : List ℕ} {r : WriteReply} {F : File} 
   good-text = p .leaves ∙ ap₂ (λ (b : Bool) (t : List ℕ). writeLeaves b t out) long-enough all-written
 
 -- the content of a good file, with what `read` leaves: well-formed, and it says that file
-module _ {file events left : List ℕ} {a : ReadAnswer} {F : File} (p : ReadPromise file events a left) (e : readFile (length events) file ≡ Good F) where
+module _ {file events left : List ℕ} {a : ReadAnswer} {F : File} (p : ReadPromise file events a left)
+    (e : readFile (length events) file ≡ Good F) where
   good-well-formed : WellFormed (a .content) left
   good-well-formed =
       rw (good-content p e, good-left p e)
@@ -86,7 +89,8 @@ read-well-formed p h = let (F, e) = read-good-file p h in good-well-formed p e
 
 -- what is read and written again is the same bytes; the rest of the list stays
 pub read-written : {file events left out text : List ℕ} {a : ReadAnswer} {r : WriteReply} {n line : ℕ}
-    → ReadPromise file events a left → readAnswer (a .reply) ≡ ReadNumbers n line → WritePromise (a .content) left out r text → 32768 ≤ length out
+    → ReadPromise file events a left → readAnswer (a .reply) ≡ ReadNumbers n line → WritePromise (a .content) left out r text
+    → 32768 ≤ length out
     → (writeAnswer r ≡ WroteBytes (length file)) × (text ≡ file ++ drop (length file) out)
 read-written {file} {events} {left} {out} {text} {a} {r} {n} {line} p h q l =
     let (F, e) = read-good-file p h in
@@ -100,7 +104,8 @@ read-written {file} {events} {left} {out} {text} {a} {r} {n} {line} p h q l =
 -- what is written and read again is the same content and events; the rest of the list stays
 pub written-read : {c : Content} {events out text list left : List ℕ} {r : WriteReply} {a : ReadAnswer} {n : ℕ}
     → WellFormed c events → length (textOf (fileOf c (take 9000 events))) ≤ 32768
-    → 32768 ≤ length out → WritePromise c events out r text → writeAnswer r ≡ WroteBytes n → 9000 ≤ length list → ReadPromise (take n text) list a left
+    → 32768 ≤ length out → WritePromise c events out r text → writeAnswer r ≡ WroteBytes n → 9000 ≤ length list
+    → ReadPromise (take n text) list a left
     → (readAnswer (a .reply) ≡ ReadNumbers (3 * c .events) (3 + c .count)) × (a .content ≡ c)
     × (left ≡ take (3 * c .events) events ++ drop (3 * c .events) list)
 unfolding contentOf
@@ -111,8 +116,10 @@ written-read {c} {events} {out} {text} {list} {left} {r} {a} {n} w m l q k lent 
     let gs : length (F .groups) ≡ c .count = ap (λ (d : Content). d .count) b in
     let len : n ≡ length (textOf F) = let k′ = good-wrote q refl (w .lent) l m in cc in
     let t : take n text ≡ textOf F =
-    ap₂ (λ (x : ℕ) (y : List ℕ). take x y) len (good-text q refl (w .lent) l m) ∙ take-append-seam (textOf F) (drop (length (textOf F)) out) in
-    let e : readFile (length list) (take n text) ≡ Good F = ap (readFile (length list)) t ∙ text-read (length list) F (file-good c events w) lent m in (
+    ap₂ (λ (x : ℕ) (y : List ℕ). take x y) len (good-text q refl (w .lent) l m)
+    ∙ take-append-seam (textOf F) (drop (length (textOf F)) out) in
+    let e : readFile (length list) (take n text) ≡ Good F = ap (readFile (length list)) t
+    ∙ text-read (length list) F (file-good c events w) lent m in (
       good-read p e ∙ ap₂ (λ (x y : ℕ). ReadNumbers (3 * x) (3 + y)) es gs,
       good-content p e ∙ b,
       good-left p e ∙ ap₂ (λ (xs : List ℕ) (x : ℕ). xs ++ drop (3 * x) list) (numbers-back c events w) es,

@@ -98,7 +98,7 @@ events-end k m i ns e l g =
     let few : length (drop (3 * k) ns) < 3 = simp length-drop (omega arith) in
     rw more (events-split k (m - k) ns ∙ rw (events-few (m - k) _ few) (append-nil (eventsFrom k ns)))
 
--- ---- a part at the start of a list is lent for the text and comes back
+-- ---- the front of a list is lent for the text and comes back
 
 pub written-part : {t left : List ℕ} {place : ℕ} (out : List ℕ) (k : ℕ) → k ≤ length out → Written t 0 (take k out) place left
     → (place ≡ length (take k t)) × (left ++ drop k out ≡ take k t ++ drop (length (take k t)) out)
@@ -109,5 +109,6 @@ written-part {t} out k h w =
       full .0,
       ap (λ (l : List ℕ). l ++ drop k out) (full .1)
           ∙ append-assoc (take k t) (drop n (take k out)) (drop k out)
-          ∙ ap (λ (l : List ℕ). take k t ++ l) (sym (drop-append-le n (take k out) (drop k out) fits) ∙ ap (drop n) (take-append-drop k out)),
+          ∙ ap (λ (l : List ℕ). take k t ++ l) (sym (drop-append-le n (take k out) (drop k out) fits)
+          ∙ ap (drop n) (take-append-drop k out)),
     )

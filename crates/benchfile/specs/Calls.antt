@@ -11,8 +11,8 @@ use Rattle.benchfile.specs.File.{File, Outcome, Refused, Good, readFile,
 use Rattle.benchfile.specs.declared.Content.{Content}
 use Rattle.benchfile.specs.declared.ReadAnswer.{ReadAnswer}
 use Rattle.benchfile.specs.declared.ReadReply.{ReadReply}
-use Rattle.benchfile.specs.declared.ReadReply.the-variants.{Read, ListTooShort as ReadTooShort, FileTooLong, NoLine, BadValue, BadCount}
-use Rattle.benchfile.specs.declared.ReadReply.the-variants.{NoSuchUnit, NotRising, WrongLength, TooManyEvents}
+use Rattle.benchfile.specs.declared.ReadReply.the-variants.{Read, ListTooShort as ReadTooShort, FileTooLong, NoLine, BadValue}
+use Rattle.benchfile.specs.declared.ReadReply.the-variants.{BadCount, NoSuchUnit, NotRising, WrongLength, TooManyEvents}
 use Rattle.benchfile.specs.declared.WriteReply.{WriteReply}
 use Rattle.benchfile.specs.declared.WriteReply.the-variants.{Wrote, ListTooShort as WriteTooShort}
 
@@ -26,7 +26,7 @@ pub data Answer : Type 0 where
   -- a file was written, of so many bytes
   WroteBytes : ℕ → Answer
 
--- document 01's number and values for each case; 3 to 9 carry the line, 2 line 0
+-- document 01's number and the values of each case; 3 to 9 carry the line, 2 line 0
 unfoldable pub readAnswer : ReadReply → Answer
 readAnswer (Read n line) = ReadNumbers n line
 readAnswer ReadTooShort = TurnedAway (1 ∷ [])

@@ -24,8 +24,8 @@ pub record GoodFile (F : File) : Type 0 where
 abbrev pub GoodNumbers : (a b c : ℕ) → Type 0
 GoodNumbers a b c = (a < 65536) × (b < 65536) × (c < 65536) × ((1 ≤ a) ⊎ ((a ≡ 0) × (c ≡ 0)))
 
--- a well-formed content with its events: 1 to 32 units; at most 24 groups, none empty, all below the units, zeros past those that count; each
--- parent a unit or a root, 255 past the units and everywhere for `build`; at most 3,000 events
+-- a well-formed content with its events: 1 to 32 units; at most 24 groups, none empty, all below the units, zeros past those that count;
+-- each parent a unit or a root, 255 past the units and everywhere for `build`; at most 3,000 events
 pub record WellFormed (c : Content) (events : List ℕ) : Type 0 where
   pub least : 1 ≤ c .units
   pub most : c .units ≤ 32
@@ -34,7 +34,8 @@ pub record WellFormed (c : Content) (events : List ℕ) : Type 0 where
   pub group : (i : ℕ) → i < c .count → GoodGroup (c .units) (getD (c .groups) i 0)
   pub unused : (i : ℕ) → c .count ≤ i → getD (c .groups) i 0 ≡ 0
   pub parents : length (c .parents) ≡ 32
-  pub drawn : c .build ≡ false → (u : ℕ) → u < c .units → (getD (c .parents) u 255 ≡ 255) ⊎ (getD (c .parents) u 255 < c .units)
+  pub drawn : c .build ≡ false → (u : ℕ) → u < c .units → (getD (c .parents) u 255 ≡ 255)
+      ⊎ (getD (c .parents) u 255 < c .units)
   pub undrawn : (u : ℕ) → (c .build ≡ true) ⊎ (c .units ≤ u) → getD (c .parents) u 255 ≡ 255
   pub total : c .events ≤ 3000
   pub lent : 9000 ≤ length events

@@ -4,8 +4,8 @@ use mathlib.Core.List.{List, [], _∷_, _++_, map}
 use lib.ListN.{length}
 use lib.Dec.{ltb}
 use Rattle.text.specs.Text.{split}
-use Rattle.lines.specs.Lines.{refuse, unitsKey, groupsKey, countIn, unitsFault, groupsFault, groupFault, groupIn, parentsFault, parentsIn, eventFault, eventIn}
-use Rattle.lines.specs.Lines.{countLine, groupLine, parentsLine, eventLine, Parents, Event}
+use Rattle.lines.specs.Lines.{refuse, unitsKey, groupsKey, countIn, unitsFault, groupsFault, groupFault, groupIn, parentsFault, parentsIn}
+use Rattle.lines.specs.Lines.{eventFault, eventIn, countLine, groupLine, parentsLine, eventLine, Parents, Event}
 
 -- what a good file says: how many units; the groups, each a set of units; `build` or the parents; the events
 pub record File : Type 0 where
@@ -31,7 +31,7 @@ unfoldable pub next : (fault k : ℕ) → State → State
 next zero k s = s
 next (suc f) k s = Stopped (suc f ∷ k ∷ [])
 
--- line k is read at its place; the first bad line decides
+-- line k is read at its place; a bad line ends the reading
 unfoldable pub step : ℕ → List ℕ → State → State
 step k line UnitsDue = next (unitsFault line) k (GroupsDue (countIn unitsKey line))
 step k line (GroupsDue n) = next (groupsFault line) k (GroupDue n (countIn groupsKey line) [])
@@ -64,7 +64,8 @@ steps k (line ∷ l ∷ ls) s = steps (suc k) (l ∷ ls) (step k line s)
 -- a file is read, `lent` numbers being lent for the events
 unfoldable pub readFile : ℕ → List ℕ → Outcome
 readFile lent file =
-    refuse (ltb lent 9000) (Refused (1 ∷ [])) (refuse (ltb 32768 (length file)) (Refused (2 ∷ 0 ∷ [])) (steps 1 (split 10 file) UnitsDue))
+    refuse (ltb lent 9000) (Refused (1 ∷ [])) (refuse (ltb 32768 (length file)) (Refused (2 ∷ 0 ∷ []))
+    (steps 1 (split 10 file) UnitsDue))
 
 -- ---- writing
 

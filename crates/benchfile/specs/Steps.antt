@@ -28,15 +28,18 @@ pub record CountsRead (file : List ℕ) (r : Counts) : Type 0 where
   pub refused : (r .fault ≡ 0 → ⊥) → BadLine (steps 1 (split 10 file) UnitsDue) (r .fault) (r .line)
   pub inside : r .at ≤ length file
   pub count : r .count ≤ 24
-  pub goes : r .fault ≡ 0 → steps 1 (split 10 file) UnitsDue ≡ steps 3 (split 10 (drop (r .at) file)) (GroupDue (r .units) (r .count) [])
+  pub goes : r .fault ≡ 0 → steps 1 (split 10 file) UnitsDue ≡ steps 3 (split 10 (drop (r .at) file))
+      (GroupDue (r .units) (r .count) [])
 
--- the lines `group=` were read, at the start of the rest of a file, as many as are due
+-- the lines `group=` were read, first in what is left of a file, as many as are due
 pub record GroupsRead (rest : List ℕ) (units count : ℕ) (r : Groups) : Type 0 where
-  pub refused : (r .fault ≡ 0 → ⊥) → (k : ℕ) → BadLine (steps k (split 10 rest) (GroupDue units count [])) (r .fault) (k + r .read)
+  pub refused : (r .fault ≡ 0 → ⊥) → (k : ℕ) → BadLine (steps k (split 10 rest) (GroupDue units count []))
+      (r .fault) (k + r .read)
   pub inside : r .at ≤ length rest
   pub few : r .read ≤ count
   pub goes : r .fault ≡ 0 → (gs : List ℕ) × (length gs ≡ count) × (r .sets ≡ tabulate 24 (λ i. getD gs i 0))
-      × ((k : ℕ) → steps k (split 10 rest) (GroupDue units count []) ≡ steps (k + count) (split 10 (drop (r .at) rest)) (GroupDue units 0 gs))
+      × ((k : ℕ) → steps k (split 10 rest) (GroupDue units count [])
+      ≡ steps (k + count) (split 10 (drop (r .at) rest)) (GroupDue units 0 gs))
 
 -- all lines before the events were read; `line` is the next line
 pub record HeadingRead (file : List ℕ) (r : Heading) : Type 0 where
@@ -58,7 +61,7 @@ pub record EventsRead (rest : List ℕ) (r : Tally) (Held : List Event → Type 
       × ((k n : ℕ) (gs : List ℕ) (ps : Parents)
       → steps k (split 10 rest) (EventDue n gs ps []) ≡ Good (record { units = n; groups = gs; parents = ps; events = es }))
 
--- the numbers of the events were written at the start of a list
+-- the numbers of the events were written first in a list
 abbrev pub NumbersPut : List ℕ → List ℕ → List Event → Type 0
 NumbersPut list left es = (place : ℕ) × Written (numbersOf es) 0 list place left
 

@@ -82,8 +82,8 @@ fn copy(list: &mut [u16], from: &[u16], count: usize) -> usize
     i
 }
 
-// Reads the events at the start of the rest of a file and, where all lines are good, stores them. Meanwhile their numbers go to `kept`, a list of at least
-// 9,000 numbers.
+// Reads the events at the start of the rest of a file and, where all lines are good, stores them. Meanwhile their numbers go to `kept`, a
+// list of at least 9,000 numbers.
 pub fn store(rest: &[u8], kept: &mut [u16], list: &mut [u16]) -> Tally
     ensures { λ r. ⌜ EventsStored (now (rest .entry)) (now (kept .entry)) (now (list .entry)) r (now (list .exit)) ⌝ }
 {

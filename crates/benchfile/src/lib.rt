@@ -18,8 +18,8 @@ pub struct Content {
     pub events: u16,
 }
 
-// What `read` says of a file; `readAnswer` of specs/Calls.antt gives document 01's number and values for each case. A file that was read: how many
-// numbers were written, and the line of `parents=`. Else the line of the fault.
+// What `read` says of a file; `readAnswer` of specs/Calls.antt gives document 01's number and the values of each case. A file that was
+// read: how many numbers were written, and the line of `parents=`. Else the line of the fault.
 pub enum ReadReply {
     Read(usize, usize),
     ListTooShort,
@@ -70,8 +70,8 @@ fn turned_away(reply: ReadReply) -> ReadAnswer
     }
 }
 
-// Reads a file. Its events go to the start of a lent list of at least 9,000 numbers, three for each: a send is source+1, group, word, an arrive 0, hop, 0;
-// the rest of the list stays, and all of it where the file is turned away.
+// Reads a file. Its events go to the front of a list of at least 9,000 numbers, three for each: of a send source+1, group and word, of an
+// arrival 0, hop and 0. The rest of the list stays, and all of it where the file is turned away.
 pub fn read(file: &[u8], list: &mut [u16]) -> ReadAnswer
     ensures { λ r. ⌜ ReadPromise (now (file .entry)) (now (list .entry)) r (now (list .exit)) ⌝ }
 {
@@ -98,7 +98,7 @@ pub fn read(file: &[u8], list: &mut [u16]) -> ReadAnswer
     }
 }
 
-// Writes a file at the start of a lent list of at least 32,768 bytes; the rest of the list stays. The events are those that `read` left.
+// Writes a file to the front of a list of at least 32,768 bytes; the rest of the list stays. The events are those that `read` left.
 pub fn write(content: Content, list: &[u16], out: &mut [u8]) -> WriteReply
     ensures { λ r. ⌜ WritePromise content (now (list .entry)) (now (out .entry)) r (now (out .exit)) ⌝ }
 {

@@ -40,7 +40,8 @@ fn put_groups(out: &mut [u8], at: usize, groups: [u32; 24], count: u8) -> usize
 
 // The lines of the first so many events of a list, three numbers for each.
 fn put_events(out: &mut [u8], at: usize, list: &[u16], count: u16) -> usize
-    ensures { λ r. ⌜ Written (ended (map eventLine (eventsFrom count (now (list .entry))))) at (now (out .entry)) r (now (out .exit)) ⌝ }
+    ensures { λ r. ⌜ Written (ended (map eventLine (eventsFrom count (now (list .entry))))) at (now (out .entry)) r
+        (now (out .exit)) ⌝ }
 {
     let mut next = at;
     let mut i = 0;

@@ -1,4 +1,5 @@
-// Bench files, good and bad, as document 01 tells: a line for each, with what `read` answers, and for a good file whether `write` gives it back.
+// Bench files, good and bad, as document 01 tells: a line for each, with what `read` answers, and for a good file whether `write` gives it
+// back.
 use benchfile::Content;
 use benchfile::ReadAnswer;
 use benchfile::ReadReply;
@@ -136,8 +137,8 @@ fn lent(file: &[u8]) {
 
 // Files that are read.
 fn good() {
-    let p8 =
-        b"units=4\ngroups=4\ngroup=0,3\ngroup=0,1\ngroup=2,3\ngroup=1,2\nparents=-,2,0,2\nsend=3,0,500\nsend=1,2,600\narrive=0\narrive=1\narrive=2\narrive=4\narrive=3\n";
+    let p8 = b"units=4\ngroups=4\ngroup=0,3\ngroup=0,1\ngroup=2,3\ngroup=1,2\n\
+          parents=-,2,0,2\nsend=3,0,500\nsend=1,2,600\narrive=0\narrive=1\narrive=2\narrive=4\narrive=3\n";
     case(b"P8", p8);
     case(b"P10", b"units=1\ngroups=0\nparents=-\n");
     case(b"build", b"units=3\ngroups=1\ngroup=0,2\nparents=build\n");
@@ -224,7 +225,7 @@ fn bad_numbers() {
     );
 }
 
-// Members that do not rise, and too few or too many parents: 7 and 8; the first bad line decides.
+// Members that do not rise, and too few or too many parents: 7 and 8; that of the first bad line.
 fn bad_sequences() {
     case(b"not rising", b"units=2\ngroups=1\ngroup=1,0\n");
     case(b"a member twice", b"units=2\ngroups=1\ngroup=0,0\n");

@@ -50,7 +50,8 @@ asked = value Request.the-row by-request ∷ value usize (by-uint w64) ∷ []
 module _ {M : Type 1} (𝓤 : URA M) (H : Heap 𝓤) (A : Atoms 𝓤) where
   -- ---- by a rule
   abbrev pub least-callee : Callee 𝓤 H A
-  least-callee = by-rule 𝓤 H A (value usize (by-uint w64) ∷ value usize (by-uint w64) ∷ []) usize (by-uint w64) (λ d. min (d .0) (d .1 .0))
+  least-callee = by-rule 𝓤 H A (value usize (by-uint w64) ∷ value usize (by-uint w64) ∷ []) usize (by-uint w64)
+      (λ d. min (d .0) (d .1 .0))
 
   abbrev pub hops-lent-callee : Callee 𝓤 H A
   hops-lent-callee = by-rule 𝓤 H A asked usize (by-uint w64) (λ d. min (d .0 .hops) (d .1 .0))
@@ -84,7 +85,8 @@ module _ {M : Type 1} (𝓤 : URA M) (H : Heap 𝓤) (A : Atoms 𝓤) where
 
   abbrev pub after-rest-callee : Callee 𝓤 H A
   after-rest-callee =
-      by-rule 𝓤 H A (value B by-bench ∷ value RestReply.the-row by-rest-reply ∷ []) Done.the-row by-done (λ d. afterRest (d .0) (d .1 .0))
+      by-rule 𝓤 H A (value B by-bench ∷ value RestReply.the-row by-rest-reply ∷ []) Done.the-row by-done
+      (λ d. afterRest (d .0) (d .1 .0))
 
   abbrev pub bench-of-callee : Callee 𝓤 H A
   bench-of-callee = by-rule 𝓤 H A (value Done.the-row by-done ∷ []) B by-bench (λ d. d .0 .bench)
@@ -94,7 +96,8 @@ module _ {M : Type 1} (𝓤 : URA M) (H : Heap 𝓤) (A : Atoms 𝓤) where
 
   abbrev pub end-of-callee : Callee 𝓤 H A
   end-of-callee =
-      by-rule 𝓤 H A (value B by-bench ∷ value Progress.the-row by-progress ∷ []) Ended.the-row by-ended (λ d. endedWith (d .0) (d .1 .0))
+      by-rule 𝓤 H A (value B by-bench ∷ value Progress.the-row by-progress ∷ []) Ended.the-row by-ended
+      (λ d. endedWith (d .0) (d .1 .0))
 
   -- these two are lent the list
   abbrev pub begun-callee : Callee 𝓤 H A
@@ -103,7 +106,8 @@ module _ {M : Type 1} (𝓤 : URA M) (H : Heap 𝓤) (A : Atoms 𝓤) where
 
   abbrev pub request-at-callee : Callee 𝓤 H A
   request-at-callee =
-      stating 𝓤 H A 1 (value Progress.the-row by-progress ∷ relayed 0 tt u16 (by-uint w16) ∷ []) Request.the-row by-request the-result
+      stating 𝓤 H A 1 (value Progress.the-row by-progress ∷ relayed 0 tt u16 (by-uint w16) ∷ [])
+      Request.the-row by-request the-result
       (λ d. requestAt (d .0) (d .1 .0)) (λ d. tt)
 
   -- ---- by a relation
@@ -114,7 +118,8 @@ module _ {M : Type 1} (𝓤 : URA M) (H : Heap 𝓤) (A : Atoms 𝓤) where
 
   abbrev pub run-call-callee : RelationalCallee 𝓤 H A
   run-call-callee =
-      promising 𝓤 H A 2 (value B by-bench ∷ value Request.the-row by-request ∷ lent 0 tt R ∷ lent 1 tt u16 ∷ []) Done.the-row by-done
+      promising 𝓤 H A 2 (value B by-bench ∷ value Request.the-row by-request ∷ lent 0 tt R ∷ lent 1 tt u16 ∷
+      []) Done.the-row by-done
       (λ d r es. CallRun (d .0) (d .1 .0) (d .1 .1 .0) (d .1 .1 .1 .0) r (es .0) (es .1 .0))
 
   -- the caller holds a `&mut [u16]`

@@ -5,4 +5,5 @@ pub mod Records
 pub mod States
 pub mod Runs
 pub mod Outcomes
+pub mod Theorems
 pub mod Known

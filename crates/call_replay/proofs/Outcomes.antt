@@ -27,7 +27,7 @@ use Rattle.bench.specs.Lists.{listsOf}
 use Rattle.bench_promises.specs.State.{joined, hopRecords, logBook, pairTable, messageColumn, messageList, totalsOf, benchOf}
 use Rattle.bench_promises.specs.Promises.{after}
 use Rattle.bench_promises.proofs.Books.{joined-length}
-use Rattle.bench_promises.proofs.Reached.{hop-records-length, log-book-length}
+use Rattle.bench_promises.proofs.Reached.{hop-records-length, log-book-length, within}
 use Rattle.call_replay.specs.Answers.{numbersOf, refusedFor, unlessRefused}
 use Rattle.call_replay.specs.declared.answers.Answer.{Answer}
 use Rattle.call_replay.specs.declared.benches.Ended.{Ended}
@@ -35,10 +35,10 @@ use Rattle.call_replay.specs.Rules.{Given, Replied, replied, runFrom, ru
 use Rattle.call_replay.specs.Rules.{forestRefused, refusalOf, planOf, over, ran, repliesOf, stateOf, hopNumbers, nines, lastRecords}
 use Rattle.call_replay.specs.Rules.{benchNumbers, CallsPromise}
 use Rattle.call_replay.specs.Steps.{rowsOf, benchOut, begunWith, allNines, ListRun, listsShort, lentShort}
-use Rattle.call_replay.proofs.States.{replaced, At, within}
+use Rattle.call_replay.proofs.States.{replaced, At}
 use Rattle.call_replay.proofs.Runs.{requests-length, Finished, calls-run}
 
--- a list for results is too short; what the forest is refused for; the fresh bench is lent too short a list
+-- a list for results is too short; what the forest is refused for; a list lent to the fresh bench is too short
 abbrev pub Short : Given → Bool
 Short g = listsShort (length (g .hops)) (length (g .bench)) (length (g .replies)) (length (g .calls) / 6)
 
@@ -61,7 +61,8 @@ module _ (g : Given) (a : Answer) where
   abbrev Stays : Type 0
   Stays = CallsPromise g a (g .book) (g .hops) (g .bench) (g .replies)
 
-  refused-for : (number : ℕ) (values : List ℕ) → refusalOf g ≡ number ∷ values → numbersOf a ≡ refusedFor (number ∷ values) → Stays
+  refused-for : (number : ℕ) (values : List ℕ) → refusalOf g ≡ number ∷ values
+      → numbersOf a ≡ refusedFor (number ∷ values) → Stays
   unfolding unlessRefused
   refused-for number values e told =
       let stays : (new old : List ℕ) → old ≡ unlessRefused (refusalOf g) new old = λ new old. sym
@@ -82,7 +83,8 @@ module _ (g : Given) (a : Answer) where
   pub short-refused : Short g ≡ true → numbersOf a ≡ 1 ∷ 1 ∷ 0 ∷ [] → Stays
   unfolding refusalOf refusedFor
   short-refused t told =
-      refused-for 1 (1 ∷ []) (ap (λ (b : Bool). cond b (1 ∷ 1 ∷ []) (forestRefused (Forest g) (freshShort g))) (results-short ∙ t)) told
+      refused-for 1 (1 ∷ []) (ap (λ (b : Bool). cond b (1 ∷ 1 ∷ []) (forestRefused (Forest g) (freshShort g)))
+      (results-short ∙ t)) told
 
   module _ (long : Short g ≡ false) where
     refusal-is : (l : List ℕ) → Forest g ≡ l → refusalOf g ≡ forestRefused l (freshShort g)
@@ -96,7 +98,8 @@ module _ (g : Given) (a : Answer) where
     forest-cases [] e told some = absurd (some (ap (λ (x : List ℕ). getD x 0 0) told))
     forest-cases (number ∷ values) e told some = refused-for number values (refusal-is (number ∷ values) e) told
 
-    pub forest-refused : (v : Verdict) → refusal v ≡ Forest g → numbersOf a ≡ refusedFor (refusal v) → (a .refusal ≡ 0 → ⊥) → Stays
+    pub forest-refused : (v : Verdict) → refusal v ≡ Forest g → numbersOf a ≡ refusedFor (refusal v)
+        → (a .refusal ≡ 0 → ⊥) → Stays
     forest-refused v same told some = forest-cases (Forest g) refl (told ∙ ap refusedFor same) some
 
     module _ (accepted : Forest g ≡ []) where
@@ -125,16 +128,20 @@ module _ (f g : ℕ → ℕ → ℕ) where
   unfolding rowsOf pairTable joined rowIn tabulate
   rows-taken = refl
 
-bench-out : (P : Plan) (W : Network) → benchOut (benchOf P W) ≡ benchNumbers P W
+pub bench-out : (P : Plan) (W : Network) → benchOut (benchOf P W) ≡ benchNumbers P W
 unfolding benchOut benchOf totalsOf messageList benchNumbers
 bench-out P W = simp (rows-made, rows-taken, append-assoc)
 
-bench-length : (P : Plan) (W : Network) → length (benchNumbers P W) ≡ 2684
+pub bench-length : (P : Plan) (W : Network) → length (benchNumbers P W) ≡ 2684
 unfolding benchNumbers messageColumn
 bench-length P W =
     let pairs : (f : ℕ → ℕ → ℕ) → length (joined 32 (λ s. tabulate 32 (f s))) ≡ 1024 =
     λ f. joined-length 32 32 (λ s. tabulate 32 (f s)) (λ s. length-tabulate 32 (f s)) in
-    simp (length-append, length-tabulate) (omega (arith, pairs (λ s r. pairCount s r (hopsOf W)), pairs (λ s r. pairTaken s r (hopsOf W))))
+    simp (length-append, length-tabulate) (omega (
+      arith,
+      pairs (λ s r. pairCount s r (hopsOf W)),
+      pairs (λ s r. pairTaken s r (hopsOf W)),
+    ))
 
 last-nines : drop 2000 allNines ≡ replicate 8 nines
 last-nines = refl
@@ -225,7 +232,8 @@ module _ (g : Given) (accepted : Forest g ≡ []) (lent : FreshShort g ≡ false
         ap (λ (k : ℕ). runFrom P (requestsOf (length (g .book)) (drop k (g .calls))) (replied [] fresh)) (sym none) ∙ F .is
 
     -- what is left where nothing is refused, of the calls run
-    left-by : {A : Type 0} (f : Replied → A) (before : A) → refusalOf g ≡ [] → f (replied (F .numbers) W) ≡ unlessRefused (refusalOf g)
+    left-by : {A : Type 0} (f : Replied → A) (before : A) → refusalOf g ≡ []
+        → f (replied (F .numbers) W) ≡ unlessRefused (refusalOf g)
         (f (ran g)) before
     left-by f before none = ap f (sym ran-is) ∙ unrefused-left (refusalOf g) none (f (ran g)) before
 
@@ -242,7 +250,8 @@ module _ (g : Given) (accepted : Forest g ≡ []) (lent : FreshShort g ≡ false
         let both-long = or-none hops-test bench-test (all-long .0) in
         let hops-long : 10040 ≤ length (g .hops) = omega (arith, ltb-false (length (g .hops)) 10040 (both-long .0)) in
         let bench-long : 2684 ≤ length (g .bench) = omega (arith, ltb-false (length (g .bench)) 2684 (both-long .1)) in
-        let replies-long : 203 * calls ≤ length (g .replies) = omega (arith, ltb-false (length (g .replies)) (203 * calls) (all-long .1)) in
+        let replies-long : 203 * calls ≤ length (g .replies) = omega
+        (arith, ltb-false (length (g .replies)) (203 * calls) (all-long .1)) in
         let L = within P planned (F .calls) in
         let records : R .hops-left ≡ hopRecords W ++ tail = F .state .hops-are in
         let size : length (hopNumbers (R .hops-left)) ≡ 10040 =
@@ -263,7 +272,8 @@ module _ (g : Given) (accepted : Forest g ≡ []) (lent : FreshShort g ≡ false
               ∙ left-by (λ r. 0 ∷ length (requests g) ∷ length (repliesOf r) ∷ []) _ none;
           leaves-book = F .state .book-is ∙ ap (λ (k : ℕ). logBook W ++ drop k (g .book)) (sym (log-book-length P W L))
               ∙ left-by (λ r. over (logBook (stateOf r)) (g .book)) _ none;
-          leaves-hops = put-over (R .puts) (omega (arith, size, hops-long)) ∙ ap (λ (hs : List Hop). over (hopNumbers hs) (g .hops)) records
+          leaves-hops = put-over (R .puts) (omega (arith, size, hops-long))
+              ∙ ap (λ (hs : List Hop). over (hopNumbers hs) (g .hops)) records
               ∙ left-by (λ r. over (hopNumbers (lastRecords (stateOf r))) (g .hops)) _ none;
           leaves-bench = put-over puts (omega (arith, ap length out-is, bench-length P W, bench-long)) ∙ ap
               (λ (l : List ℕ). over l (g .bench)) out-is
@@ -274,9 +284,11 @@ module _ (g : Given) (accepted : Forest g ≡ []) (lent : FreshShort g ≡ false
 -- the forest's parents are those of the check
 pub ran-on : (g : Given) → Forest g ≡ [] → FreshShort g ≡ false
     → (ps : List ℕ) → ps ≡ checkParents (g .units) (g .count) (g .groups) (g .parents)
-    → {end : Ended} {records-left book-left replies-left bench-left : List ℕ} {place : ℕ} → Ran g ps end book-left replies-left records-left
+    → {end : Ended} {records-left book-left replies-left bench-left : List ℕ} {place : ℕ}
+    → Ran g ps end book-left replies-left records-left
     → (a : Answer) → Short g ≡ false
-    → Written (benchOut (listsOf (end .bench))) 0 (g .bench) place bench-left → numbersOf a ≡ 0 ∷ length (g .calls) / 6 ∷ end .numbers ∷ []
+    → Written (benchOut (listsOf (end .bench))) 0 (g .bench) place bench-left
+    → numbersOf a ≡ 0 ∷ length (g .calls) / 6 ∷ end .numbers ∷ []
     → CallsPromise g a book-left records-left bench-left replies-left
 ran-on g accepted lent ps e {end} {records-left} {book-left} {replies-left} R a long puts told =
     all-ran g accepted lent (subst (λ (qs : List ℕ). Ran g qs end book-left replies-left records-left) e R) a long puts told

@@ -24,9 +24,11 @@ joined-snoc zero f = append-nil (f 0)
 joined-snoc (suc n) f = ap (λ (l : List ℕ). f 0 ++ l) (joined-snoc n (λ i. f (suc i))) ∙ sym
     (append-assoc (f 0) (joined n (λ i. f (suc i))) (f (suc n)))
 
-pub rows-more : (pairs : List (List (List ℕ))) (k : ℕ) {out mid left : List ℕ} {at place next : ℕ} (n : ℕ) (row : List ℕ) → row ≡ rowIn
+pub rows-more : (pairs : List (List (List ℕ))) (k : ℕ) {out mid left : List ℕ} {at place next : ℕ} (n : ℕ) (row : List ℕ)
+    → row ≡ rowIn
     pairs k n
-    → Written (rowsOf n pairs k) at out place mid → Written row place mid next left → Written (rowsOf (n + 1) pairs k) at out next left
+    → Written (rowsOf n pairs k) at out place mid → Written row place mid next left
+    → Written (rowsOf (n + 1) pairs k) at out next left
 unfolding rowsOf
 rows-more pairs k n row e v w =
     let rows : ℕ → List ℕ = rowIn pairs k in

@@ -31,15 +31,18 @@ numbers-append [] ys = refl
 numbers-append (x ∷ xs) ys = λ i. x .sender ∷ x .receiver ∷ x .sequence ∷ x .message ∷ x .state ∷ numbers-append xs ys i
 
 -- one record more, and all of them
-pub records-more : (hs : List Hop) {out mid left : List ℕ} {at place next : ℕ} (i : ℕ) → i < length hs → Written (hopNumbers (take i hs))
+pub records-more : (hs : List Hop) {out mid left : List ℕ} {at place next : ℕ} (i : ℕ) → i < length hs
+    → Written (hopNumbers (take i hs))
     at out place mid
     → Written (hopNumbers (hopAt hs i ∷ [])) place mid next left → Written (hopNumbers (take (i + 1) hs)) at out next left
 unfolding hopAt
 records-more hs i within v w =
-    written-is (sym (ap hopNumbers (ap (λ (n : ℕ). take n hs) (add-one i) ∙ take-suc hs i noHop within) ∙ numbers-append (take i hs) _))
+    written-is (sym (ap hopNumbers (ap (λ (n : ℕ). take n hs) (add-one i) ∙ take-suc hs i noHop within)
+    ∙ numbers-append (take i hs) _))
     (written-append v w)
 
-pub records-all : (hs : List Hop) {out left : List ℕ} {at place : ℕ} (i : ℕ) → length hs ≤ i → Written (hopNumbers (take i hs)) at out
+pub records-all : (hs : List Hop) {out left : List ℕ} {at place : ℕ} (i : ℕ) → length hs ≤ i
+    → Written (hopNumbers (take i hs)) at out
     place left
     → Written (hopNumbers hs) at out place left
 records-all hs i all w = written-is (ap hopNumbers (take-all i hs all)) w

@@ -17,8 +17,8 @@ use Rattle.text.proofs.Written.{written-none, written-append}
 use Rattle.model.specs.declared.Hop.{Hop}
 use Rattle.model.specs.Network.{Plan, Network}
 use Rattle.model.specs.Rules.{Answer, Refused, Sent, Repeat, Held, Taken, Outcome, outcome, answerOf, leftOf}
-use Rattle.model.specs.Calls.{Call, Send as SendCall, Arrive as ArriveCall, call, LogAnswer, log, RestAnswer, RestRefused, Rest as RestSays}
-use Rattle.model.specs.Calls.{rest as restOf}
+use Rattle.model.specs.Calls.{Call, Send as SendCall, Arrive as ArriveCall, call, LogAnswer, log, RestAnswer, RestRefused}
+use Rattle.model.specs.Calls.{Rest as RestSays, rest as restOf}
 use Rattle.model.specs.Demand3.{Planned}
 use Rattle.model.specs.Claims.{Limits}
 use Rattle.model.proofs.Replies.{refuse-either}
@@ -26,6 +26,7 @@ use Rattle.bench.specs.declared.Bench.{Bench}
 use Rattle.bench.specs.Lists.{listsOf}
 use Rattle.bench_promises.specs.Replies.{LengthAnswer, LengthRefused, Length as LengthIs, sendAnswer, arriveAnswer, restAnswer}
 use Rattle.bench_promises.specs.Promises.{after, handedBack, lengthAnswer}
+use Rattle.bench_promises.proofs.Reached.{within, left-state}
 use Rattle.call_replay.specs.Rules.{Request, Send, Arrive, Log, Length, Rest, requestOf, requestsOf, answerNumbers, lengthNumbers}
 use Rattle.call_replay.specs.Rules.{restNumbers, logNumbers, Replied, replied, answeredAs, reply, followed, runFrom}
 use Rattle.call_replay.specs.Steps.{isGoing, requestIn, requestAt, isSend, isArrive, threeOf, afterSend, afterArrive, afterRest}
@@ -35,8 +36,7 @@ use Rattle.call_replay.specs.declared.requests.Request.{Request as Asked
 use Rattle.call_replay.specs.declared.requests.Progress.{Progress}
 use Rattle.call_replay.specs.declared.replies.Done.{Done}
 use Rattle.call_replay.proofs.Threes.{written-is, answer-three, rest-three}
-use Rattle.call_replay.proofs.States.{within, At, left-state, hops-length, book-length, sent-at, arrived-at, rested-at, logged-at}
-use Rattle.call_replay.proofs.States.{length-at}
+use Rattle.call_replay.proofs.States.{At, hops-length, book-length, sent-at, arrived-at, rested-at, logged-at, length-at}
 
 -- ---- the requests of a list of numbers
 
@@ -91,13 +91,14 @@ module _ (size : ℕ) where
     unfolding requestOf
     as-length e = ap (λ (i : ℕ). requestOf size i a b c n m) e
 
-    as-rest : eqb k 0 ≡ false → eqb k 1 ≡ false → (k ≡ 2 → ⊥) → (k ≡ 3 → ⊥) → requestOf size k a b c n m ≡ Rest (min n 2008)
+    as-rest : eqb k 0 ≡ false → eqb k 1 ≡ false → (k ≡ 2 → ⊥) → (k ≡ 3 → ⊥)
+        → requestOf size k a b c n m ≡ Rest (min n 2008)
     unfolding requestOf
     as-rest e e′ x y = rw (e, e′, ne-eqb k 2 x, ne-eqb k 3 y) refl
 
 -- ---- replies
 
-answer-length : (a : Answer) → length (answerNumbers a) ≡ 3
+pub answer-length : (a : Answer) → length (answerNumbers a) ≡ 3
 unfolding answerNumbers
 answer-length (Refused number) = refl
 answer-length (Sent m) = refl
@@ -105,12 +106,12 @@ answer-length Repeat = refl
 answer-length Held = refl
 answer-length (Taken n) = refl
 
-length-length : (a : LengthAnswer) → length (lengthNumbers a) ≡ 3
+pub length-length : (a : LengthAnswer) → length (lengthNumbers a) ≡ 3
 unfolding lengthNumbers
 length-length (LengthRefused number) = refl
 length-length (LengthIs n) = refl
 
-rest-length : (a : RestAnswer) → length (restNumbers a) ≡ 3
+pub rest-length : (a : RestAnswer) → length (restNumbers a) ≡ 3
 unfolding restNumbers
 rest-length (RestRefused number) = refl
 rest-length (RestSays b) = refl
@@ -119,7 +120,7 @@ log-length : (l : List ℕ) → length l ≤ 200 → length (logNumbers l) ≤ 2
 unfolding logNumbers
 log-length l h = omega (arith, h)
 
-answered-is : (o : Outcome) → answeredAs o ≡ replied (answerNumbers (answerOf o)) (leftOf o)
+pub answered-is : (o : Outcome) → answeredAs o ≡ replied (answerNumbers (answerOf o)) (leftOf o)
 unfolding answeredAs answerOf leftOf
 answered-is (outcome a W) = refl
 
@@ -138,7 +139,8 @@ going-some : (p : Progress) → isGoing p ≡ true → p .left ≡ 0 → ⊥
 unfolding isGoing
 going-some p goes none = clash goes (ap not (eq-eqb (p .left) 0 none))
 
-three-put : {d : Done} {q : Asked} {book out left : List ℕ} {at place : ℕ} → NumbersPut d q book out at place left → (q .kind ≡ 2 → ⊥) →
+three-put : {d : Done} {q : Asked} {book out left : List ℕ} {at place : ℕ} → NumbersPut d q book out at place left
+    → (q .kind ≡ 2 → ⊥) →
     (q .kind ≡ 3 → ⊥)
     → Written (threeOf (d .reply)) at out place left
 three-put (put-log k x) not-2 not-3 = absurd (not-2 k)
@@ -176,7 +178,8 @@ module _ (P : Plan) (planned : Planned P) (tail : List Hop) (rest : List ℕ) (e
     unfolding requestFor isSend isArrive afterSend afterArrive afterRest reply
     stepped (sent r t promise) put =
         let c = SendCall (q .a) (q .b) (q .c) (min (q .hops) 2008) in
-        let X = sent-at P planned at₀ (q .a) (q .b) (q .c) (hopsLent q hops) promise c (ap (SendCall (q .a) (q .b) (q .c)) (sym hops-lent))
+        let X = sent-at P planned at₀ (q .a) (q .b) (q .c) (hopsLent q hops) promise c
+        (ap (SendCall (q .a) (q .b) (q .c)) (sym hops-lent))
         in
         let o = call P c (after P cs) in record {
           calls = cs ++ c ∷ [];
@@ -250,14 +253,17 @@ module _ (P : Plan) (planned : Planned P) (tail : List Hop) (rest : List ℕ) (e
     pub puts : Written numbers (p .at) out (p′ .at) left
     pub small : length numbers ≤ 203 * p .left
 
-  pub calls-run : {list : List ℕ} {b b′ : Bench} {p p′ : Progress} {hops hops′ : List Hop} {book book′ out out′ : List ℕ} {cs : List Call}
+  pub calls-run : {list : List ℕ} {b b′ : Bench} {p p′ : Progress} {hops hops′ : List Hop}
+      {book book′ out out′ : List ℕ} {cs : List Call}
       (ns : List ℕ)
-      → CallsFrom list b p hops book out b′ p′ hops′ book′ out′ → At P planned tail rest cs (listsOf b) hops book → p .left ≤ length list /
+      → CallsFrom list b p hops book out b′ p′ hops′ book′ out′ → At P planned tail rest cs (listsOf b) hops book
+      → p .left ≤ length list /
       6
       → Finished list p cs ns out b′ p′ hops′ book′ out′
   unfolding runFrom requestAt isGoing followed
   calls-run {list} {p = p} {out = out} {cs = cs} ns (over stop) at₀ bound =
-      let none : p .left ≡ 0 = by-cases (ℕ-discrete (p .left) 0) (λ e. e) (λ some. absurd (clash (ap not (ne-eqb (p .left) 0 some)) stop))
+      let none : p .left ≡ 0 = by-cases (ℕ-discrete (p .left) 0) (λ e. e)
+      (λ some. absurd (clash (ap not (ne-eqb (p .left) 0 some)) stop))
       in
       let l = drop (6 * (length list / 6 - p .left)) list in
       let short : length l < 6 = omega (arith, none, length-drop (6 * (length list / 6 - p .left)) list) in record {
@@ -278,7 +284,8 @@ module _ (P : Plan) (planned : Planned P) (tail : List Hop) (rest : List ℕ) (e
       let F = calls-run (ns ++ S .numbers) later (S .state) (omega (arith, on, bound)) in
       let place : k + 6 ≡ 6 * (length list / 6 - r .left) = omega (arith, on, bound, some) in
       let long : 6 ≤ length l = omega (arith, some, bound, length-drop k list) in
-      let rest-is : drop 6 l ≡ drop (6 * (length list / 6 - r .left)) list = drop-drop 6 k list ∙ ap (λ (n : ℕ). drop n list) place in
+      let rest-is : drop 6 l ≡ drop (6 * (length list / 6 - r .left)) list = drop-drop 6 k list
+      ∙ ap (λ (n : ℕ). drop n list) place in
       record {
         calls = F .calls;
         numbers = S .numbers ++ F .numbers;

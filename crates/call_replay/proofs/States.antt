@@ -14,10 +14,7 @@ use Rattle.model.specs.Network.{Plan, Network}
 use Rattle.model.specs.Rules.{Outcome, answerOf, leftOf, refuse, refused, send, arrive}
 use Rattle.model.specs.Calls.{Call, Send, Arrive, call, log, rest as restOf}
 use Rattle.model.specs.Demand3.{Planned}
-use Rattle.model.specs.Claims.{Limits}
-use Rattle.model.proofs.Progress.{network-snoc}
 use Rattle.model.proofs.Replies.{rest-answers}
-use Rattle.model.proofs.Theorems.{limits}
 use Rattle.bench_promises.specs.declared.replies.SendReply.{SendReply}
 use Rattle.bench_promises.specs.declared.replies.ArriveReply.{ArriveReply}
 use Rattle.bench_promises.specs.declared.replies.RestReply.{RestReply}
@@ -26,7 +23,8 @@ use Rattle.bench_promises.specs.Replies.{sendAnswer, arriveAnswer, restAnswer, 
 use Rattle.bench_promises.specs.State.{Bench, hopRecords, logBook, benchOf}
 use Rattle.bench_promises.specs.Promises.{after, OfHops, OfBook, handedBack, lengthAnswer, SendPromise, ArrivePromise, RestPromise}
 use Rattle.bench_promises.specs.Promises.{LogPromise, LengthPromise}
-use Rattle.bench_promises.proofs.Reached.{hop-records-length, log-book-length, send-book, send-call, arrive-call, send-short, arrive-short}
+use Rattle.bench_promises.proofs.Reached.{hop-records-length, log-book-length, send-book, send-call, arrive-call}
+use Rattle.bench_promises.proofs.Reached.{send-short, arrive-short, within, left-state}
 
 -- ---- a list, of which the first n are lent
 
@@ -47,10 +45,6 @@ module _ {A : Type 0} (k n : ℕ) (y tail l : List A) (is : l ≡ y ++ tail) (si
   kept left e = ap (λ (z : List A). z ++ drop n l) e ∙ take-append-drop n l ∙ is
 
 module _ (P : Plan) (planned : Planned P) where
-  pub within : (cs : List Call) → Limits P (after P cs)
-  unfolding after
-  within cs = limits P planned cs
-
   -- bench, hops and book are those of the state after a list of calls; past them the hops end in `tail`, the book in `rest`
   pub record At (tail : List Hop) (rest : List ℕ) (cs : List Call) (b : Bench) (hops : List Hop) (book : List ℕ) : Type 0 where
     pub bench : b ≡ benchOf P (after P cs)
@@ -58,21 +52,17 @@ module _ (P : Plan) (planned : Planned P) where
     pub book-is : book ≡ logBook (after P cs) ++ rest
 
   hops-size : (cs : List Call) → length (hopRecords (after P cs)) ≡ 2000
-  hops-size cs = hop-records-length P (after P cs) (within cs)
+  hops-size cs = hop-records-length P (after P cs) (within P planned cs)
 
   book-size : (cs : List Call) → length (logBook (after P cs)) ≡ 6400
-  book-size cs = log-book-length P (after P cs) (within cs)
-
-  -- one call more, with its outcome
-  pub left-state : (cs : List Call) (c : Call) (o : Outcome) → call P c (after P cs) ≡ o → after P (cs ++ c ∷ []) ≡ leftOf o
-  unfolding after
-  left-state cs c o e = network-snoc P cs c ∙ ap leftOf e
+  book-size cs = log-book-length P (after P cs) (within P planned cs)
 
   module _ {tail : List Hop} {rest : List ℕ} where
-    goes-on : (cs : List Call) (c : Call) (o : Outcome) → call P c (after P cs) ≡ o → {b : Bench} {hops : List Hop} {book : List ℕ} → b ≡
+    goes-on : (cs : List Call) (c : Call) (o : Outcome) → call P c (after P cs) ≡ o
+        → {b : Bench} {hops : List Hop} {book : List ℕ} → b ≡
         benchOf P (leftOf o)
         → hops ≡ hopRecords (leftOf o) ++ tail → book ≡ logBook (leftOf o) ++ rest → At tail rest (cs ++ c ∷ []) b hops book
-    goes-on cs c o e x y z = let same = sym (left-state cs c o e) in record {
+    goes-on cs c o e x y z = let same = sym (left-state P planned cs c o e) in record {
       bench = x ∙ ap (benchOf P) same;
       hops-are = y ∙ ap (λ (W : Network). hopRecords W ++ tail) same;
       book-is = z ∙ ap (λ (W : Network). logBook W ++ rest) same;
@@ -80,10 +70,12 @@ module _ (P : Plan) (planned : Planned P) where
 
     module _ {cs : List Call} {b : Bench} {hops : List Hop} {book : List ℕ} (at : At tail rest cs b hops book) where
       pub hops-length : length hops ≡ 2000 + length tail
-      hops-length = ap length (at .hops-are) ∙ length-append (hopRecords (after P cs)) tail ∙ ap (λ (n : ℕ). n + length tail) (hops-size cs)
+      hops-length = ap length (at .hops-are) ∙ length-append (hopRecords (after P cs)) tail
+          ∙ ap (λ (n : ℕ). n + length tail) (hops-size cs)
 
       pub book-length : length book ≡ 6400 + length rest
-      book-length = ap length (at .book-is) ∙ length-append (logBook (after P cs)) rest ∙ ap (λ (n : ℕ). n + length rest) (book-size cs)
+      book-length = ap length (at .book-is) ∙ length-append (logBook (after P cs)) rest
+          ∙ ap (λ (n : ℕ). n + length rest) (book-size cs)
 
       of-hops : (n : ℕ) → 2000 ≤ length (take n hops) → OfHops (after P cs) (take n hops)
       of-hops n whole = record {
@@ -131,7 +123,8 @@ module _ (P : Plan) (planned : Planned P) where
       arrived-at {r} {b′} {left} {book-left} j n m promise c same =
           let W = after P cs in
           let turned : ((length (take n hops) < 2000) ⊎ (length (take m book) < 6400))
-          → (arriveAnswer r ≡ answerOf (call P c W)) × At tail rest (cs ++ c ∷ []) b′ (left ++ drop n hops) (book-left ++ drop m book) = λ
+          → (arriveAnswer r ≡ answerOf (call P c W)) × At tail rest (cs ++ c ∷ []) b′ (left ++ drop n hops)
+          (book-left ++ drop m book) = λ
           short.
           let one = promise .short short in let x = promise .refused 1 one in
           let e = ap (λ (z : Call). call P z W) same ∙ arrive-short P j (length (take n hops)) (length (take m book)) W short in (
@@ -145,7 +138,8 @@ module _ (P : Plan) (planned : Planned P) where
           let whole : 2000 ≤ length (take n hops) = omega (arith, long) in
           let whole′ : 6400 ≤ length (take m book) = omega (arith, long′) in
           let x = promise .rule P planned cs (at .bench) (of-hops n whole) (of-book m whole′) in
-          let e = ap (λ (z : Call). call P z W) same ∙ arrive-call P j (length (take n hops)) (length (take m book)) W whole whole′ in (
+          let e = ap (λ (z : Call). call P z W) same
+          ∙ arrive-call P j (length (take n hops)) (length (take m book)) W whole whole′ in (
             x .answer ∙ sym (ap answerOf e),
             goes-on cs c (arrive P j W) e (x .bench)
                 (replaced 2000 n (hopRecords W) tail hops (at .hops-are) (hops-size cs) (hopRecords (leftOf (arrive P j W))) left whole
@@ -154,7 +148,8 @@ module _ (P : Plan) (planned : Planned P) where
                 (x .numbers)),
           )))
 
-      pub rested-at : {r : RestReply} (n : ℕ) → RestPromise b (take n hops) r → restAnswer r ≡ restOf (length (take n hops)) (after P cs)
+      pub rested-at : {r : RestReply} (n : ℕ) → RestPromise b (take n hops) r
+          → restAnswer r ≡ restOf (length (take n hops)) (after P cs)
       unfolding restOf refuse
       rested-at n promise =
           by-cases (decLt (length (take n hops)) 2000)

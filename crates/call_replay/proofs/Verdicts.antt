@@ -19,7 +19,8 @@ no-number OutsideUnits e = absurd (suc-ne-zero _ e)
 no-number OwnAncestor e = absurd (suc-ne-zero _ e)
 no-number (NoPrimary g) e = absurd (suc-ne-zero _ e)
 
-unrefused-left : {A : Type 0} (refusal : List ℕ) (left before : A) → (getD refusal 0 0 ≡ 0 → ⊥) → unlessRefused refusal left before ≡ before
+unrefused-left : {A : Type 0} (refusal : List ℕ) (left before : A) → (getD refusal 0 0 ≡ 0 → ⊥)
+    → unlessRefused refusal left before ≡ before
 unfolding unlessRefused
 unrefused-left [] left before some = absurd (some refl)
 unrefused-left (number ∷ values) left before some = refl

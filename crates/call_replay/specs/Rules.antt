@@ -133,7 +133,8 @@ pub record Given : Type 0 where
   pub bench : List ℕ
   pub replies : List ℕ
 
-abbrev pub given : (units count : ℕ) (groups parents : List ℕ) (fresh-hops fresh-book : ℕ) (calls book hops bench replies : List ℕ) → Given
+abbrev pub given : (units count : ℕ) (groups parents : List ℕ) (fresh-hops fresh-book : ℕ) (calls book hops bench replies : List ℕ)
+    → Given
 given units count groups parents fresh-hops fresh-book calls book hops bench replies = record {
   units = units;
   count = count;
@@ -156,7 +157,7 @@ unfoldable pub resultsShort : Given → Bool
 resultsShort g =
     ltb (length (g .hops)) 10040 || ltb (length (g .bench)) 2684 || ltb (length (g .replies)) (203 * length (requests g))
 
--- the fresh bench is lent too short a list
+-- a list lent to the fresh bench is too short
 unfoldable pub freshShort : Given → Bool
 freshShort g = ltb (min (g .fresh-hops) 2008) 2000 || ltb (min (g .fresh-book) (length (g .book))) 6400
 
@@ -177,7 +178,7 @@ planOf g = record {
   parents = checkParents (g .units) (g .count) (g .groups) (g .parents);
 }
 
--- the new numbers at the start of a list, whose rest stays
+-- numbers put first in a list, whose rest stays
 unfoldable pub over : List ℕ → List ℕ → List ℕ
 over numbers list = numbers ++ drop (length numbers) list
 

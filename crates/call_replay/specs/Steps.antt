@@ -46,7 +46,7 @@ begunWith calls = record { left = length calls / 6; at = 0 }
 unfoldable pub isGoing : Progress → Bool
 isGoing p = not (eqb (p .left) 0)
 
--- the call at the start of a list
+-- the first call of a list
 unfoldable pub requestIn : List ℕ → Request
 requestIn l = record { kind = getD l 0 0; a = getD l 1 0; b = getD l 2 0; c = getD l 3 0; hops = getD l 4 0; book = getD l 5 0 }
 
@@ -108,10 +108,13 @@ pub record LengthPut (b : Bench) (unit : ℕ) (book out : List ℕ) (at place : 
   pub puts : Written (lengthNumbers (logAnswer reply)) at out place left
 
 pub data NumbersPut (d : Done) (q : Request) (book out : List ℕ) (at place : ℕ) (left : List ℕ) : Type 0 where
-  put-log : q .kind ≡ 2 → LogPut (d .bench) (q .a) (take (bookLent q book) book) out at place left → NumbersPut d q book out at place left
-  put-length : q .kind ≡ 3 → LengthPut (d .bench) (q .a) (take (bookLent q book) book) out at place left → NumbersPut d q book out at place
+  put-log : q .kind ≡ 2 → LogPut (d .bench) (q .a) (take (bookLent q book) book) out at place left
+      → NumbersPut d q book out at place left
+  put-length : q .kind ≡ 3 → LengthPut (d .bench) (q .a) (take (bookLent q book) book) out at place left
+      → NumbersPut d q book out at place
       left
-  put-three : (q .kind ≡ 2 → ⊥) → (q .kind ≡ 3 → ⊥) → Written (threeOf (d .reply)) at out place left → NumbersPut d q book out at place left
+  put-three : (q .kind ≡ 2 → ⊥) → (q .kind ≡ 3 → ⊥) → Written (threeOf (d .reply)) at out place left
+      → NumbersPut d q book out at place left
 
 pub record ReplyPut (d : Done) (q : Request) (book out : List ℕ) (p r : Progress) (left : List ℕ) : Type 0 where
   pub puts : NumbersPut d q book out (p .at) (r .at) left
@@ -119,14 +122,18 @@ pub record ReplyPut (d : Done) (q : Request) (book out : List ℕ) (p r : Progre
 
 -- ---- all calls
 
-pub data CallsFrom (calls : List ℕ) : Bench → Progress → List Hop → List ℕ → List ℕ → Bench → Progress → List Hop → List ℕ → List ℕ → Type
+pub data CallsFrom (calls : List ℕ) : Bench → Progress → List Hop → List ℕ → List ℕ → Bench → Progress → List Hop
+    → List ℕ → List ℕ → Type
     0 where
-  over : {b : Bench} {p : Progress} {hops : List Hop} {book out : List ℕ} → isGoing p ≡ false → CallsFrom calls b p hops book out b p hops
+  over : {b : Bench} {p : Progress} {hops : List Hop} {book out : List ℕ} → isGoing p ≡ false
+      → CallsFrom calls b p hops book out b p hops
       book out
-  next : {b b′ : Bench} {d : Done} {p r s : Progress} {hops hops₁ hops₂ : List Hop} {book book₁ book₂ out out₁ out₂ : List ℕ} → isGoing p ≡
+  next : {b b′ : Bench} {d : Done} {p r s : Progress} {hops hops₁ hops₂ : List Hop}
+      {book book₁ book₂ out out₁ out₂ : List ℕ} → isGoing p ≡
       true
       → CallRun b (requestAt p calls) hops book d hops₁ book₁ → ReplyPut d (requestAt p calls) book₁ out p r out₁
-      → CallsFrom calls (d .bench) r hops₁ book₁ out₁ b′ s hops₂ book₂ out₂ → CallsFrom calls b p hops book out b′ s hops₂ book₂ out₂
+      → CallsFrom calls (d .bench) r hops₁ book₁ out₁ b′ s hops₂ book₂ out₂
+      → CallsFrom calls b p hops book out b′ s hops₂ book₂ out₂
 
 unfoldable pub endedWith : Bench → Progress → Ended
 endedWith b p = record { bench = b; numbers = p .at }

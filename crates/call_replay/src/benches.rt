@@ -1,4 +1,4 @@
-// The calls run on the lent hops and log book.
+// The calls run on hops and book, as lent.
 use crate::Sizes;
 use crate::replies;
 use crate::replies::Done;

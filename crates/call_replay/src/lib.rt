@@ -46,7 +46,7 @@ fn is_short(hops: usize, bench: usize, replies: usize, calls: usize) -> bool
     replies / Sizes::REPLY < calls
 }
 
-// Whether the fresh bench is lent too short a list.
+// Whether a list lent to the fresh bench is too short.
 fn is_fresh_short(hops: usize, numbers: usize, book: usize) -> bool
     ensures { λ r. ⌜ r ≡ lentShort hops numbers book ⌝ }
 {
@@ -70,7 +70,8 @@ pub fn run(
     bench: &mut [u32],
     replies: &mut [u16],
 ) -> Answer
-    ensures { λ r. ⌜ CallsPromise (given units count groups parents «fresh_hops» «fresh_book» (now (calls .entry)) (now (book .entry))
+    ensures { λ r. ⌜ CallsPromise (given units count groups parents «fresh_hops» «fresh_book»
+        (now (calls .entry)) (now (book .entry))
         (now (hops .entry))
         (now (bench .entry)) (now (replies .entry))) r (now (book .exit)) (now (hops .exit)) (now (bench .exit)) (now (replies .exit)) ⌝ }
 {

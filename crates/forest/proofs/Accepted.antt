@@ -1,4 +1,4 @@
--- A built forest is always accepted: no unit is its own ancestor, and every group has a primary. Assumes nothing.
+-- What `build` lays out is accepted: it has no circle, and its groups have primaries. Assumes nothing.
 use mathlib.Core.Path.{_≡_, refl, sym, ap, subst, _∙_}
 use mathlib.Core.Logic.{_⊎_, inl, inr, ⊎-elim, by-cases}
 use mathlib.Core.Bool.{Bool, true, false, cond}
@@ -32,7 +32,7 @@ no-unit x e = let b = above-unit x .1 in let z : 255 < 32 = subst (λ (y : ℕ).
 
 -- ---- the parents of the built forest
 
-drawn-entry : (n : ℕ) (ps : List ℕ) (u : ℕ) → u < 32 → parent (drawn n ps) u ≡ cond (ltb u n) (getD ps u 255) 255
+pub drawn-entry : (n : ℕ) (ps : List ℕ) (u : ℕ) → u < 32 → parent (drawn n ps) u ≡ cond (ltb u n) (getD ps u 255) 255
 unfolding parent drawn drawnAt
 drawn-entry n ps u b = getD-tabulate 32 (drawnAt n ps) u 255 b
 
@@ -85,15 +85,18 @@ module _ (n : ℕ) (gs : List ℕ) (bench : Bench n gs) where
   pub rule-parent : (u : ℕ) → u < n → (w : RootOf n gs u) × (parent (built n gs) u ≡ w .top)
   rule-parent u h = let w = rule-part n gs bench u h in (w .0, built-parent n gs u (bench .few) h ∙ w .1)
 
-  -- a unit in no group is nobody's parent
-  pub lonely-childless : (u : ℕ) → u < n → ((i : ℕ) → member (getD gs i 0) u ≡ true → ⊥) → (v : ℕ) → parent (built n gs) v ≡ u → ⊥
+  -- a unit that no group holds is nobody's parent
+  pub lonely-childless : (u : ℕ) → u < n → ((i : ℕ) → member (getD gs i 0) u ≡ true → ⊥)
+      → (v : ℕ) → parent (built n gs) v ≡ u → ⊥
   lonely-childless u h none v e = by-cases (decLt v n)
       (λ b. let w = rule-parent v b in lonely-top n gs bench (w .0 .laid) u h none (sym (w .1) ∙ e))
-      (λ b. lt-irrefl 32 (let z : 255 < 32 = subst (λ (x : ℕ). x < 32) (sym e ∙ past-parent n gs v (omega arith)) (small h) in omega arith))
+      (λ b. lt-irrefl 32 (let z : 255 < 32 = subst (λ (x : ℕ). x < 32)
+      (sym e ∙ past-parent n gs v (omega arith)) (small h) in omega arith))
 
-  -- ---- the root of a part is above all of it
+  -- ---- a part's root is above all of it
 
-  root-above : (m : ℕ) {s live top : ℕ} (l : Laid n gs s live top) (r : ℕ) → IsRoot gs s r → (u : ℕ) → size s ≤ m → member s u ≡ true
+  root-above : (m : ℕ) {s live top : ℕ} (l : Laid n gs s live top) (r : ℕ) → IsRoot gs s r → (u : ℕ) → size s ≤ m
+      → member s u ≡ true
       → Above (built n gs) r u
   root-above zero {s} l r q u h a = absurd (not-suc-le-zero (le-trans (size-positive s u (small (laid-unit l a)) a) h))
   root-above (suc m) {s} {live} l r q u h a =
@@ -110,7 +113,7 @@ module _ (n : ℕ) (gs : List ℕ) (bench : Bench n gs) where
       (subst (λ (x : ℕ). Above (built n gs) r x) (sym (root-parent l′ q′)) (itself (small (laid-unit l (q .inside))))))
       (root-above m l′ (root gs t) q′ u (le-of-suc-le-suc (le-trans (smaller-size n gs bench s live r f (q .inside) u a k) h)) self))
 
-  -- ---- no unit is its own ancestor: a unit above another lies no deeper
+  -- ---- there is no circle: a unit above another lies no deeper
 
   no-deeper : {a u s live top s′ live′ top′ : ℕ} → Above (built n gs) a u → (la : Laid n gs s live top) → IsRoot gs s a
       → (l : Laid n gs s′ live′ top′) → IsRoot gs s′ u → depth n gs bench la ≤ depth n gs bench l
@@ -118,7 +121,8 @@ module _ (n : ℕ) (gs : List ℕ) (bench : Bench n gs) where
   no-deeper (itself {u} h) la qa l q = le-of-eq (laid-depth n gs bench la l u qa q)
   no-deeper (over h x) la qa (whole p) q = absurd (no-unit x (root-parent (whole p) q))
   no-deeper (over h x) la qa (smaller {s} r l q′ p) q =
-      le-trans (no-deeper x la qa l (subst (λ (y : ℕ). IsRoot gs s y) (sym (root-parent (smaller r l q′ p) q)) q′)) (le-suc (depth n gs bench l))
+      le-trans (no-deeper x la qa l (subst (λ (y : ℕ). IsRoot gs s y) (sym (root-parent (smaller r l q′ p) q)) q′))
+      (le-suc (depth n gs bench l))
 
   own : {u s live top : ℕ} (l : Laid n gs s live top) → IsRoot gs s u → Above (built n gs) u (parent (built n gs) u) → ⊥
   unfolding depth
@@ -148,10 +152,11 @@ module _ (n : ℕ) (gs : List ℕ) (bench : Bench n gs) where
         (λ b. inl (past-parent n gs u (omega arith)));
   }
 
-  -- ---- every group has a primary: the root of the last part that holds all of it
+  -- ---- a group's primary is the root of the last part that holds all of it
 
   -- a live group lies whole in the component of each of its units
-  whole-group : (live i v : ℕ) → member live i ≡ true → member (getD gs i 0) v ≡ true → (u : ℕ) → member (getD gs i 0) u ≡ true
+  whole-group : (live i v : ℕ) → member live i ≡ true → member (getD gs i 0) v ≡ true
+      → (u : ℕ) → member (getD gs i 0) u ≡ true
       → member (component gs live v) u ≡ true
   unfolding Closed
   whole-group live i v a b u c =
@@ -161,7 +166,8 @@ module _ (n : ℕ) (gs : List ℕ) (bench : Bench n gs) where
   group-primary : (m : ℕ) {s live top : ℕ} (l : Laid n gs s live top) (i v : ℕ) → size s ≤ m → member live i ≡ true
       → member (getD gs i 0) v ≡ true
       → ((u : ℕ) → member (getD gs i 0) u ≡ true → member s u ≡ true) → (p : ℕ) × IsPrimary (built n gs) (getD gs i 0) p
-  group-primary zero {s} l i v h a b sub = absurd (not-suc-le-zero (le-trans (size-positive s v (small (laid-unit l (sub v b))) (sub v b)) h))
+  group-primary zero {s} l i v h a b sub =
+      absurd (not-suc-le-zero (le-trans (size-positive s v (small (laid-unit l (sub v b))) (sub v b)) h))
   group-primary (suc m) {s} {live} l i v h a b sub =
       let f = laid-facts n gs bench l in
       let r : ℕ = root gs s in

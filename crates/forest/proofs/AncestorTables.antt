@@ -53,7 +53,8 @@ module _ (op : ℕ → ℕ → ℕ → ℕ) (rule : List ℕ → ℕ → ℕ) (s
   pub followed-none : {table : List ℕ} {v : ℕ} → s < 2 ^ 32 → ((ps : List ℕ) → v ≡ rule ps 0) → Followed rule table s v s
   followed-none h e = record { rest = left-all s h; right = λ ps _. visits-start s (rule ps) (still ps) (e ps) }
 
-  pub followed-turn : {table : List ℕ} {v left k next r : ℕ} → Followed rule table s v left → (left ≡ 0 → ⊥) → k ≡ lowest left
+  pub followed-turn : {table : List ℕ} {v left k next r : ℕ} → Followed rule table s v left
+      → (left ≡ 0 → ⊥) → k ≡ lowest left
       → next ≡ excluding left k → r ≡ op k v (getD table k 0) → Followed rule table s r next
   followed-turn {k = k} h n e x w = record {
     rest = left-turn (h .rest) n e x;

@@ -139,7 +139,7 @@ module _ (ps : List ℕ) where
   above-complete a u (itself h) = within-first 31 u u h refl
   above-complete a u (over h r) = settled u a (within-next 32 u a h (above-complete a (parent ps u) r))
 
--- ---- no unit is its own ancestor
+-- ---- circles
 
 pub own-ancestor-sound : (ps : List ℕ) (u : ℕ) → ownAncestor ps u ≡ true → Above ps u (parent ps u)
 unfolding ownAncestor

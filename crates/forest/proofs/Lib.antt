@@ -4,3 +4,4 @@ pub mod Primaries
 pub mod Accepted
 pub mod Theorems
 pub mod AncestorTables
+pub mod Exactly

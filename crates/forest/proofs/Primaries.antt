@@ -82,7 +82,8 @@ unfolding hasPrimary primary
 has-primary ps g p b r =
     let l : p < 32 = member-below 32 g p b (r .inside) in
     let s = intersection g (aboveEvery 32 ps g) in
-    let both = member-intersection g (aboveEvery 32 ps g) p ∙ and-both (member g p) _ (r .inside) (every-complete 32 ps g p l (r .every)) in
+    let both = member-intersection g (aboveEvery 32 ps g) p
+    ∙ and-both (member g p) _ (r .inside) (every-complete 32 ps g p l (r .every)) in
     lt-ltb (lowest s) 32 (lt-of-le-of-lt (lowest-least s p l both) l)
 
 pub primary-unique : {ps : List ℕ} {g p q : ℕ} → Acyclic ps → IsPrimary ps g p → IsPrimary ps g q → p ≡ q
@@ -90,7 +91,8 @@ primary-unique {ps} {g} {p} {q} acyclic r s = above-antisym acyclic (r .every q 
 
 -- ---- routes
 
-some-sound : (k : ℕ) (ps : List ℕ) (g a : ℕ) → member (aboveSome k ps g) a ≡ true → (m : ℕ) × (member g m ≡ true) × Above ps a m
+some-sound : (k : ℕ) (ps : List ℕ) (g a : ℕ) → member (aboveSome k ps g) a ≡ true
+    → (m : ℕ) × (member g m ≡ true) × Above ps a m
 unfolding aboveSome
 some-sound zero ps g a h = absurd (clash h (member-empty a))
 some-sound (suc k) ps g a h = ⊎-elim
@@ -98,7 +100,8 @@ some-sound (suc k) ps g a h = ⊎-elim
     (λ b. (k, and-left (member g k) _ b, above-sound ps a k (and-right (member g k) _ b)))
     (or-cases (member (aboveSome k ps g) a) _ (sym (some-turn k ps g a) ∙ h))
 
-some-complete : (k : ℕ) (ps : List ℕ) (g a m : ℕ) → m < k → member g m ≡ true → Above ps a m → member (aboveSome k ps g) a ≡ true
+some-complete : (k : ℕ) (ps : List ℕ) (g a m : ℕ) → m < k → member g m ≡ true → Above ps a m
+    → member (aboveSome k ps g) a ≡ true
 some-complete zero ps g a m l i r = absurd (not-suc-le-zero l)
 some-complete (suc k) ps g a m l i r = some-turn k ps g a ∙ by-cases (ℕ-discrete m k)
     (λ (e : m ≡ k). or-right (member (aboveSome k ps g) a) _
@@ -108,7 +111,8 @@ some-complete (suc k) ps g a m l i r = some-turn k ps g a ∙ by-cases (ℕ-disc
 pub on-route : (ps : List ℕ) (g u : ℕ) → member (route ps g) u ≡ true → OnWay ps g (primary ps g) u
 unfolding route onRoute
 on-route ps g u h =
-    let both = and-right (ltb u 32) _ (sym (member-collect 32 (onRoute ps (primary ps g) (aboveSome 32 ps g)) u (lit≤ tt)) ∙ h) in record {
+    let both = and-right (ltb u 32) _ (sym (member-collect 32 (onRoute ps (primary ps g) (aboveSome 32 ps g)) u (lit≤ tt)) ∙ h) in
+    record {
       below-primary = above-sound ps (primary ps g) u (and-left (above ps (primary ps g) u) _ both);
       member-below = some-sound 32 ps g u (and-right (above ps (primary ps g) u) _ both);
     }
@@ -123,7 +127,8 @@ route-has ps g u w =
     (and-both (above ps (primary ps g) u) _ (above-complete ps (primary ps g) u top)
     (some-complete 32 ps g u (m .0) (above-unit (m .2) .1) (m .1) (m .2)))
 
-pub members-on-route : (ps : List ℕ) (g m : ℕ) → g < 2 ^ 32 → hasPrimary ps g ≡ true → member g m ≡ true → member (route ps g) m ≡ true
+pub members-on-route : (ps : List ℕ) (g m : ℕ) → g < 2 ^ 32 → hasPrimary ps g ≡ true
+    → member g m ≡ true → member (route ps g) m ≡ true
 members-on-route ps g m b h i =
     let top = primary-is ps g b h .every m i in
     route-has ps g m (record { below-primary = top; member-below = (m, i, itself (above-unit top .1)) })
@@ -133,7 +138,8 @@ pub parent-below : {ps : List ℕ} {a u : ℕ} → Above ps a u → (u ≡ a →
 parent-below (itself h) n = absurd (n refl)
 parent-below (over h r) n = (h, r)
 
-pub parent-on-route : (ps : List ℕ) (g u : ℕ) → member (route ps g) u ≡ true → (u ≡ primary ps g → ⊥) → member (route ps g) (parent ps u) ≡ true
+pub parent-on-route : (ps : List ℕ) (g u : ℕ) → member (route ps g) u ≡ true
+    → (u ≡ primary ps g → ⊥) → member (route ps g) (parent ps u) ≡ true
 parent-on-route ps g u h n =
     let w = on-route ps g u h in
     let m = w .member-below in
@@ -141,7 +147,7 @@ parent-on-route ps g u h n =
     route-has ps g (parent ps u)
     (record { below-primary = p .1; member-below = (m .0, m .1, above-trans (over (p .0) (itself (above-unit (p .1) .1))) (m .2)) })
 
--- ---- every group has a primary
+-- ---- groups without a primary
 
 pub without-primary-none : (c : ℕ) (gs ps : List ℕ) → withoutPrimary c gs ps ≡ 0
     → (i : ℕ) → i < c → i < 32 → hasPrimary ps (getD gs i 0) ≡ true

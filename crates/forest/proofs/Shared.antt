@@ -14,11 +14,13 @@ use lib.Pow.{pow-pos}
 use lib.Bits.{or-zero-l, or-zero-r}
 use lib.ListN.{length, getD}
 use Rattle.sets.specs.Sets.{member, union, intersection, difference, including, lowest}
-use Rattle.sets.proofs.Bools.{cond-false}
-use Rattle.sets.proofs.Laws.{union-below, intersection-below, difference-below, including-below, member-union, member-including, same-members}
+use Rattle.sets.proofs.Bools.{cond-true, cond-false}
+use Rattle.sets.proofs.Laws.{union-below, intersection-below, difference-below, including-below}
+use Rattle.sets.proofs.Laws.{member-union, member-including, same-members}
 use Rattle.layout.specs.Tables.{tabulate}
 use Rattle.forest.specs.Forest.{parent, ancestorsWithin, ancestors, primary}
-use Rattle.forest.specs.Calls.{badCounts, emptyGroups, outsideGroups, refuse, groupsRefusal, orRoots}
+use Rattle.forest.specs.Calls.{countedAt, counted, badCounts, emptyGroups, outsideGroups, refuse, groupsRefusal, orRoots}
+use Rattle.layout.proofs.Tables.{getD-tabulate, same-tables}
 use Rattle.layout.proofs.Loops.{getD-any}
 use Rattle.forest.proofs.Ancestry.{ancestors-below}
 
@@ -79,11 +81,13 @@ unfolding union ancestors
 climbed-none ps u = record { bounded = pow-pos 32; right = or-zero-l (ancestorsWithin 32 ps u) }
 
 -- nothing is left above
-pub climbed-all : {ps : List ℕ} {unit s u left : ℕ} → Climbed ps unit s u left → ancestorsWithin left ps u ≡ 0 → s ≡ ancestors ps unit
+pub climbed-all : {ps : List ℕ} {unit s u left : ℕ} → Climbed ps unit s u left → ancestorsWithin left ps u ≡ 0
+    → s ≡ ancestors ps unit
 unfolding union
 climbed-all {ps} {unit} {s} {u} {left} h e = sym (or-zero-r s) ∙ ap (union s) (sym e) ∙ h .right
 
-pub climbed-turn : {ps : List ℕ} {unit s u left r : ℕ} → Climbed ps unit s u left → 0 < left → u < 32 → u < length ps → r ≡ including s u
+pub climbed-turn : {ps : List ℕ} {unit s u left r : ℕ} → Climbed ps unit s u left → 0 < left → u < 32 → u < length ps
+    → r ≡ including s u
     → Climbed ps unit r (getD ps u 0) (left - 1)
 unfolding ancestorsWithin parent
 climbed-turn {ps} {unit} {s} {u} {left} {r} h b l m e =
@@ -122,3 +126,20 @@ groups-rest n c gs rest l e =
     go false true d = refl
     go false false true = refl
     go false false false = refl
+
+-- ---- the groups that count
+
+pub counted-group : (c : ℕ) (gs : List ℕ) (g : ℕ) → c ≤ 24 → g < c → getD (counted c gs) g 0 ≡ getD gs g 0
+unfolding counted countedAt
+counted-group c gs g few b =
+    getD-tabulate 24 (countedAt c gs) g 0 (let z : g < 24 = omega arith in z) ∙ cond-true (ltb g c) (getD gs g 0) 0 (lt-ltb g c b)
+
+-- what is past them is not read
+pub same-counted : (c : ℕ) (gs gs′ : List ℕ) → ((i : ℕ) → i < c → getD gs i 0 ≡ getD gs′ i 0)
+    → counted c gs ≡ counted c gs′
+unfolding counted countedAt
+same-counted c gs gs′ same = same-tables 24 (countedAt c gs) (countedAt c gs′) (λ i small. by-cases (decLt i c)
+    (λ counts. let t = lt-ltb i c counts in
+    cond-true (ltb i c) (getD gs i 0) 0 t ∙ same i counts ∙ sym (cond-true (ltb i c) (getD gs′ i 0) 0 t))
+    (λ past. let f = le-ltb i c (let z : c ≤ i = omega (arith, past) in z) in
+    cond-false (ltb i c) (getD gs i 0) 0 f ∙ sym (cond-false (ltb i c) (getD gs′ i 0) 0 f)))

@@ -1,4 +1,4 @@
--- What holds of every unrefused `build` and `check`, over what the calls answer. docs/PROOFS.md leads here. Assumes nothing.
+-- What holds of every unrefused `build` and `check`, over what the calls answer; when they refuse is in Exactly.antt. Assumes nothing.
 use mathlib.Core.Path.{_≡_, refl, sym, ap, subst, _∙_}
 use mathlib.Core.Logic.{inl, inr, ⊎-elim, by-cases}
 use mathlib.Core.Bool.{Bool, true, false, not, _||_, and-false, true≢false}
@@ -11,10 +11,10 @@ use lib.ListN.{length, getD}
 use lib.Dec.{ltb, leb, eqb, lit≤}
 use borrow.Author.Tests.{lt-ltb, ltb-false, lt-leb, le-leb, eq-eqb, eqb-true, eqb-false, ne-eqb}
 use Rattle.sets.specs.Sets.{member, difference, lowest, below}
-use Rattle.sets.proofs.Bools.{either, clash, and-left, and-right, and-both, or-none, not-of-false}
+use Rattle.sets.proofs.Bools.{either, clash, and-both, or-none, not-of-false}
 use Rattle.sets.proofs.Laws.{member-difference, below-in, lowest-of-some, not-empty, below-below, difference-none}
 use Rattle.sets.proofs.Laws.{collect-none, none-collect}
-use Rattle.forest.specs.Forest.{parent, hasPrimary, cyclicUnits, withoutPrimary, accepted}
+use Rattle.forest.specs.Forest.{parent, hasPrimary, cyclicUnits, withoutPrimary}
 use Rattle.layout.specs.Build.{built}
 use Rattle.forest.specs.Calls.{countedAt, counted, drawn, badCounts, emptyAt, emptyGroups, outsideAt}
 use Rattle.forest.specs.Calls.{outsideGroups, outsideParent, outsideParents, refuse, groupsRefusal, drawingRefusal, orRoots}
@@ -27,7 +27,8 @@ use Rattle.forest.proofs.Primaries.{primary-is, primary-unique, on-rout
 use Rattle.forest.proofs.Primaries.{without-primary-none, none-without-primary}
 use Rattle.layout.proofs.Laid.{Bench, in-rest, root-small, bench-part, bench-component, rest-part, rest-component}
 use Rattle.layout.proofs.Laid.{laid-facts, laid-once, lonely-root}
-use Rattle.forest.proofs.Accepted.{past-drawn, built-cut, built-parent, rule-parent, lonely-childless, built-acyclic, built-within, built-primary}
+use Rattle.forest.proofs.Accepted.{past-drawn, built-cut, built-parent, rule-parent, lonely-childless}
+use Rattle.forest.proofs.Accepted.{built-acyclic, built-within, built-primary}
 
 -- ---- what an unrefused input is
 
@@ -36,8 +37,9 @@ unfolding refuse
 refuse-none true x xs rest e = absurd (true≢false (cc))
 refuse-none false x xs rest e = (refl, e)
 
-zero-set : (s : ℕ) → not (eqb s 0) ≡ false → s ≡ 0
-zero-set s h = eqb-true s 0 (⊎-elim (λ a. a) (λ (a : eqb s 0 ≡ false). absurd (clash (not-of-false (eqb s 0) a) h)) (either (eqb s 0)))
+pub zero-set : (s : ℕ) → not (eqb s 0) ≡ false → s ≡ 0
+zero-set s h = eqb-true s 0
+    (⊎-elim (λ a. a) (λ (a : eqb s 0 ≡ false). absurd (clash (not-of-false (eqb s 0) a) h)) (either (eqb s 0)))
 
 -- the groups are good: 1 to 32 units, at most 24 groups, none empty, all members units
 pub record GoodGroups (n c : ℕ) (gs : List ℕ) : Type 0 where
@@ -47,7 +49,7 @@ pub record GoodGroups (n c : ℕ) (gs : List ℕ) : Type 0 where
   pub bench : Bench n gs
   pub filled : (i : ℕ) → i < c → (u : ℕ) × (member (getD gs i 0) u ≡ true)
 
-counts-good : (n c : ℕ) → badCounts n c ≡ false → (0 < n) × (n ≤ 32) × (c ≤ 24)
+pub counts-good : (n c : ℕ) → badCounts n c ≡ false → (0 < n) × (n ≤ 32) × (c ≤ 24)
 unfolding badCounts
 counts-good n c h =
     let z = or-none (eqb n 0 || ltb 32 n) (ltb 24 c) h in
@@ -59,7 +61,7 @@ counts-good n c h =
     pos m f = omega arith
 
 -- no member outside the units: a set of units
-inside-units : (n g : ℕ) → difference g (below n) ≡ 0 → (g < 2 ^ 32) × ((u : ℕ) → member g u ≡ true → u < n)
+pub inside-units : (n g : ℕ) → difference g (below n) ≡ 0 → (g < 2 ^ 32) × ((u : ℕ) → member g u ≡ true → u < n)
 inside-units n g e = (
   lt-of-le-of-lt (difference-none g (below n) e) (below-below n),
   λ u m. ⊎-elim
@@ -70,7 +72,7 @@ inside-units n g e = (
 )
 
 -- a place past the table is empty
-past-table : (c : ℕ) (gs : List ℕ) (i : ℕ) → 24 ≤ i → getD (counted c gs) i 0 ≡ 0
+pub past-table : (c : ℕ) (gs : List ℕ) (i : ℕ) → 24 ≤ i → getD (counted c gs) i 0 ≡ 0
 unfolding counted
 past-table c gs i h = getD-past 24 (countedAt c gs) i 0 h
 
@@ -78,7 +80,8 @@ counted-long : (c : ℕ) (gs : List ℕ) → length (counted c gs) ≡ 24
 unfolding counted
 counted-long c gs = length-tabulate 24 (countedAt c gs)
 
-pub groups-good : (n c : ℕ) (gs rest : List ℕ) → groupsRefusal n c (counted c gs) rest ≡ [] → GoodGroups n c (counted c gs) × (rest ≡ [])
+pub groups-good : (n c : ℕ) (gs rest : List ℕ) → groupsRefusal n c (counted c gs) rest ≡ []
+    → GoodGroups n c (counted c gs) × (rest ≡ [])
 unfolding groupsRefusal emptyGroups emptyAt outsideGroups outsideAt
 groups-good n c gs rest e =
     let five = refuse-none (badCounts n c) 5 _ _ e in
@@ -140,7 +143,10 @@ built-by-rule n c gs e =
     rw (built-answer n c gs e) (record {
       root-of = rule-parent n (counted c gs) bench;
       once = λ u w w′. laid-once n (counted c gs) bench (w .laid) (w′ .laid) u (w .is-root) (w′ .is-root);
-      lonely = λ u h none. (built-parent n (counted c gs) u (bench .few) h ∙ lonely-root n (counted c gs) bench u h none, lonely-childless n (counted c gs) bench u h none);
+      lonely = λ u h none. (
+        built-parent n (counted c gs) u (bench .few) h ∙ lonely-root n (counted c gs) bench u h none,
+        lonely-childless n (counted c gs) bench u h none,
+      );
     })
 
 pub components-are-parts : (n c : ℕ) (gs : List ℕ) → buildRefusal n c gs ≡ [] → ComponentsAreParts n (counted c gs)
@@ -158,7 +164,7 @@ components-are-parts n c gs e =
           (q .inside) p;
     }
 
--- ---- a built forest is always accepted
+-- ---- what `build` answers is accepted
 
 -- parents that are units or none are no refusal
 within-good : (n : ℕ) (ps : List ℕ) → Within n ps → outsideParents n ps ≡ 0
@@ -180,7 +186,8 @@ pub build-accepted : (n c : ℕ) (gs : List ℕ) → buildRefusal n c gs ≡ []
 unfolding buildRefusal checkRefusal checkParents orRoots
 build-accepted n c gs e =
     let good = groups-good n c gs [] e .0 in
-    let cut : drawn n (buildParents n c gs) ≡ built n (counted c gs) = ap (drawn n) (built-answer n c gs e) ∙ built-cut n (counted c gs) in
+    let cut : drawn n (buildParents n c gs) ≡ built n (counted c gs) =
+    ap (drawn n) (built-answer n c gs e) ∙ built-cut n (counted c gs) in
     let none : checkRefusal n c gs (buildParents n c gs) ≡ [] =
     good-groups n c (counted c gs) _ e ∙ ap (drawingRefusal n c (counted c gs)) cut ∙ built-refusal n c (counted c gs) good in
     (none, ap (λ (l : List ℕ). orRoots l (drawn n (buildParents n c gs))) none ∙ cut ∙ sym (built-answer n c gs e))
@@ -188,7 +195,7 @@ build-accepted n c gs e =
 -- ---- an accepted forest
 
 -- parents that are no refusal are units or none
-good-within : (n : ℕ) (ps : List ℕ) → n ≤ 32 → outsideParents n (drawn n ps) ≡ 0 → Within n (drawn n ps)
+pub good-within : (n : ℕ) (ps : List ℕ) → n ≤ 32 → outsideParents n (drawn n ps) ≡ 0 → Within n (drawn n ps)
 unfolding outsideParents outsideParent
 good-within n ps few e = record {
   few = few;
@@ -198,14 +205,16 @@ good-within n ps few e = record {
         b,
         by-cases (decLt (parent (drawn n ps) u) n) (λ l. l)
             (λ l. absurd (clash
-            (and-both (leb n (parent (drawn n ps) u)) (not (eqb (parent (drawn n ps) u) 255)) (le-leb n (parent (drawn n ps) u) (omega arith))
+            (and-both (leb n (parent (drawn n ps) u)) (not (eqb (parent (drawn n ps) u) 255))
+            (le-leb n (parent (drawn n ps) u) (omega arith))
             (not-of-false (eqb (parent (drawn n ps) u) 255) (ne-eqb (parent (drawn n ps) u) 255 z)))
             (collect-none 32 (outsideParent n (drawn n ps)) (lit≤ tt) e u (lt-of-lt-of-le b few)))),
       )))
       (λ b. inl (past-drawn n ps u (omega arith)));
 }
 
-pub check-accepted : (n c : ℕ) (gs ps : List ℕ) → checkRefusal n c gs ps ≡ [] → AcceptedForest n c (counted c gs) (checkParents n c gs ps)
+pub check-accepted : (n c : ℕ) (gs ps : List ℕ) → checkRefusal n c gs ps ≡ []
+    → AcceptedForest n c (counted c gs) (checkParents n c gs ps)
 unfolding checkRefusal checkParents orRoots
 check-accepted n c gs ps e =
     let both = groups-good n c gs (drawingRefusal n c (counted c gs) (drawn n ps)) e in
@@ -232,18 +241,3 @@ pub build-forest : (n c : ℕ) (gs : List ℕ) → buildRefusal n c gs ≡ [] �
 build-forest n c gs e =
     let accepts = build-accepted n c gs e in
     subst (AcceptedForest n c (counted c gs)) (accepts .1) (check-accepted n c gs (buildParents n c gs) (accepts .0))
-
--- Where groups and parents are good, a drawing is accepted exactly when no unit is its own ancestor and every group has a primary.
-pub accepted-exactly : (n c : ℕ) (gs ps : List ℕ) → groupsRefusal n c (counted c gs) [] ≡ [] → outsideParents n (drawn n ps) ≡ 0
-    → (checkRefusal n c gs ps ≡ [] → accepted c (counted c gs) (drawn n ps) ≡ true) × (accepted c (counted c gs)
-    (drawn n ps) ≡ true → checkRefusal n c gs ps ≡ [])
-unfolding checkRefusal accepted
-accepted-exactly n c gs ps e six = (
-  λ h.
-      let faultless = parents-good n c (counted c gs) (drawn n ps) (groups-good n c gs _ h .1) in
-      and-both (eqb (cyclicUnits (drawn n ps)) 0) (eqb (withoutPrimary c (counted c gs) (drawn n ps)) 0) (eq-eqb _ 0 (faultless .1))
-      (eq-eqb _ 0 (faultless .2)),
-  λ a. good-groups n c (counted c gs) _ e ∙ good-parents n c (counted c gs) (drawn n ps) six
-      (eqb-true _ 0 (and-left (eqb (cyclicUnits (drawn n ps)) 0) (eqb (withoutPrimary c (counted c gs) (drawn n ps)) 0) a))
-      (eqb-true _ 0 (and-right (eqb (cyclicUnits (drawn n ps)) 0) (eqb (withoutPrimary c (counted c gs) (drawn n ps)) 0) a)),
-)

@@ -1,5 +1,5 @@
 -- Rules of the calls `check` and `build` (document 01, "A built forest" and "Turned away"). Definitions only.
--- A call is given n units, 24 places of groups of which the first c count and, for a drawing, 32 parents.
+-- A call is given n units, 24 places of groups of which the first c count, and the 32 parents of a drawing if it has one.
 use Prim.Native.Nat.{ℕ}
 use mathlib.Core.Bool.{Bool, true, false, not, _&&_, _||_, cond}
 use mathlib.Core.List.{List, [], _∷_}
@@ -12,7 +12,7 @@ use Rattle.layout.specs.Build.{built}
 use Rattle.forest.specs.declared.Verdict.{Verdict}
 use Rattle.forest.specs.declared.Verdict.the-variants.{Accepted, BadCounts, EmptyGroup, OutsideUnits, OwnAncestor, NoPrimary}
 
--- Document 01's number and values for each verdict; nothing where the forest is accepted. 4 to 6 carry line 0, 11 the group.
+-- The number of each verdict in document 01, and what the refusal carries: line 0, or 11's group. Nothing where the forest is accepted.
 unfoldable pub refusal : Verdict → List ℕ
 refusal Accepted = []
 refusal BadCounts = 5 ∷ 0 ∷ []
@@ -41,7 +41,7 @@ drawnAt n ps u = cond (ltb u n) (getD ps u 255) 255
 unfoldable pub drawn : ℕ → List ℕ → List ℕ
 drawn n ps = tabulate 32 (drawnAt n ps)
 
--- 5: units are 0 or above 32, or groups are above 24
+-- 5: no unit, or more than 32, or more than 24 groups
 unfoldable pub badCounts : ℕ → ℕ → Bool
 badCounts n c = eqb n 0 || ltb 32 n || ltb 24 c
 
@@ -52,14 +52,14 @@ emptyAt c gs i = ltb i c && eqb (getD gs i 0) 0
 unfoldable pub emptyGroups : ℕ → List ℕ → ℕ
 emptyGroups c gs = collect 32 (emptyAt c gs)
 
--- 6: group i has a member that is not below the number of units; the groups that have one
+-- 6: group i has a member that is none of the n units; the groups that have one
 unfoldable pub outsideAt : ℕ → List ℕ → ℕ → Bool
 outsideAt n gs i = not (eqb (difference (getD gs i 0) (below n)) 0)
 
 unfoldable pub outsideGroups : ℕ → List ℕ → ℕ
 outsideGroups n gs = collect 32 (outsideAt n gs)
 
--- 6: u has a parent that is neither a root's 255 nor below the number of units; the units that have one
+-- 6: u has a parent that is neither a root's 255 nor one of the n units; the units that have one
 unfoldable pub outsideParent : ℕ → List ℕ → ℕ → Bool
 outsideParent n ps u = leb n (parent ps u) && not (eqb (parent ps u) 255)
 

@@ -1,10 +1,10 @@
 -- Rules of forests (document 01, "Groups and ways" and "A drawn forest"). Definitions only.
--- A forest is a table of 32 parents, 255 for a root; a group is a set of units.
+-- A forest is a table of 32 parents, 255 for a root; each group is the set of its members.
 use Prim.Native.Nat.{ℕ, zero, suc, _^_, _-_}
 use mathlib.Core.Bool.{Bool, not, _&&_, cond}
 use mathlib.Core.List.{List}
 use lib.ListN.{getD}
-use lib.Dec.{ltb, eqb}
+use lib.Dec.{ltb}
 use Rattle.sets.specs.Sets.{member, including, intersection, union, difference, size, lowest, collect}
 
 -- the parent of u; 255 for a root, and for what is no unit
@@ -20,7 +20,7 @@ ancestorsWithin (suc k) ps u = let rest = ancestorsWithin k ps (parent ps u) in 
 unfoldable pub ancestors : List ℕ → ℕ → ℕ
 ancestors ps u = ancestorsWithin 32 ps u
 
--- a is above u (document 01's word: a unit is above itself, its children, their children and so on)
+-- a is above u, in document 01's sense: it is u or an ancestor of u
 unfoldable pub above : List ℕ → ℕ → ℕ → Bool
 above ps a u = member (ancestors ps u) a
 
@@ -38,7 +38,7 @@ unfoldable pub aboveSome : ℕ → List ℕ → ℕ → ℕ
 aboveSome zero ps g = 0
 aboveSome (suc k) ps g = let rest = aboveSome k ps g in cond (member g k) (union rest (ancestors ps k)) rest
 
--- the primary of g, the member that is above every member; 32 where there is none
+-- the primary of g: of its members, the one above all of them; 32 where there is none
 unfoldable pub primary : List ℕ → ℕ → ℕ
 primary ps g = lowest (intersection g (aboveEvery 32 ps g))
 
@@ -50,7 +50,7 @@ hasPrimary ps g = ltb (primary ps g) 32
 unfoldable pub onRoute : List ℕ → ℕ → ℕ → ℕ → Bool
 onRoute ps top some u = above ps top u && member some u
 
--- the route of g (document 01: its way): every unit on the paths from the primary down to the members, both ends included
+-- the route of g (document 01: its way): the units that lie below the primary and above a member, these two among them
 unfoldable pub route : List ℕ → ℕ → ℕ
 route ps g = collect 32 (onRoute ps (primary ps g) (aboveSome 32 ps g))
 
@@ -72,7 +72,3 @@ lacksPrimary c gs ps i = ltb i c && not (hasPrimary ps (getD gs i 0))
 
 unfoldable pub withoutPrimary : ℕ → List ℕ → List ℕ → ℕ
 withoutPrimary c gs ps = collect 32 (lacksPrimary c gs ps)
-
--- a forest is accepted for the first c groups: no unit is its own ancestor, and every group has a primary
-unfoldable pub accepted : ℕ → List ℕ → List ℕ → Bool
-accepted c gs ps = eqb (cyclicUnits ps) 0 && eqb (withoutPrimary c gs ps) 0

@@ -31,7 +31,7 @@ fn empty_at(groups: &[u32; 24], count: usize, i: usize) -> bool
     groups[i] == 0
 }
 
-// The group at place i has a member that is not below the number of units.
+// The group at place i has a member that is none of the units.
 fn outside_at(units: usize, groups: &[u32; 24], i: usize) -> bool
     requires { ⌜ length (now groups) ≡ 24 ⌝ }
     ensures { λ r. ⌜ r ≡ outsideAt units (now (groups .entry)) i ⌝ }
@@ -42,7 +42,7 @@ fn outside_at(units: usize, groups: &[u32; 24], i: usize) -> bool
     sets::difference(groups[i], sets::below(units)) != 0
 }
 
-// u has a parent that is neither a root's 255 nor below the number of units.
+// u has a parent that is neither a root's 255 nor one of the units.
 fn outside_parent(units: usize, parents: [u8; 32], u: usize) -> bool
     ensures { λ r. ⌜ r ≡ outsideParent units parents u ⌝ }
 {

@@ -1,12 +1,10 @@
-// The list of groups: what counts of it, and what it is refused for.
+// What a list of groups is refused for.
 use crate::Verdict;
 use crate::faults;
 use crate::faults::Fault;
 ghost use mathlib.Core.Path.{_≡_};
-ghost use mathlib.Core.Bool.{cond};
 ghost use mathlib.Core.List.{[]};
-ghost use lib.Dec.{ltb};
-ghost use Rattle.forest.specs.Calls.{refusal, accepts, counted as countedOf, badCounts, groupsRefusal};
+ghost use Rattle.forest.specs.Calls.{refusal, accepts, badCounts, groupsRefusal};
 
 // Whether a verdict refuses nothing.
 pub fn is_accepted(verdict: Verdict) -> bool
@@ -22,30 +20,7 @@ pub fn is_accepted(verdict: Verdict) -> bool
     }
 }
 
-// The group that stands at place i, if it counts.
-fn counted_at(group: u32, count: usize, i: usize) -> u32
-    ensures { λ r. ⌜ r ≡ cond (ltb i count) group 0 ⌝ }
-{
-    if i < count {
-        return group;
-    }
-    0
-}
-
-// The groups that count; the places past them are not read.
-pub fn counted(groups: [u32; 24], count: usize) -> [u32; 24]
-    ensures { λ r. ⌜ r ≡ countedOf count groups ⌝ }
-{
-    let mut table = [0u32; 24];
-    let mut i = 0;
-    while i < 24 {
-        table[i] = counted_at(groups[i], count, i);
-        i += 1;
-    }
-    table
-}
-
-// Units are 0 or above 32, or groups are above 24.
+// There is no unit, or there are more than 32, or more than 24 groups.
 fn bad_counts(units: usize, count: usize) -> bool
     ensures { λ r. ⌜ r ≡ badCounts units count ⌝ }
 {

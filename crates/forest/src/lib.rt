@@ -1,4 +1,5 @@
 // Forests of units. `check` judges a drawn forest; `build` lays one out from a list of groups.
+pub mod counting;
 mod drawing;
 mod faults;
 mod groups;
@@ -7,7 +8,7 @@ pub mod routes;
 ghost use mathlib.Core.Path.{_≡_};
 ghost use Rattle.forest.specs.Calls.{refusal, orRoots, buildRefusal, buildParents, checkRefusal, checkParents};
 
-// What a call says of its input; `refusal` of specs/Calls.antt gives document 01's number and values for each case.
+// What a call says of its input; `refusal` of specs/Calls.antt gives each case its number in document 01, and what it carries.
 pub enum Verdict {
     Accepted,
     BadCounts,
@@ -44,7 +45,7 @@ pub fn check(units: usize, groups: [u32; 24], count: usize, parents: [u8; 32]) -
     ensures refused { λ r. ⌜ refusal (r .verdict) ≡ checkRefusal units count groups parents ⌝ }
     ensures answered { λ r. ⌜ r .parents ≡ checkParents units count groups parents ⌝ }
 {
-    let table = groups::counted(groups, count);
+    let table = counting::counted(groups, count);
     let forest = drawing::drawn(units, parents);
     let verdict = drawing::judge(units, table, count, forest);
     answered(verdict, forest)
@@ -55,7 +56,7 @@ pub fn build(units: usize, groups: [u32; 24], count: usize) -> Answer
     ensures refused { λ r. ⌜ refusal (r .verdict) ≡ buildRefusal units count groups ⌝ }
     ensures answered { λ r. ⌜ r .parents ≡ buildParents units count groups ⌝ }
 {
-    let table = groups::counted(groups, count);
+    let table = counting::counted(groups, count);
     let verdict = groups::judge(units, table, count);
     let forest = drawing::drawn(units, layout::lay_out(table));
     answered(verdict, forest)

@@ -5,7 +5,8 @@ ghost use Prim.Native.Nat.{ℕ};
 ghost use lib.ListN.{length, getD};
 ghost use Rattle.sets.specs.Sets.{below as belowOf, collect};
 ghost use Rattle.layout.specs.Tables.{tabulate};
-ghost use Rattle.forest.specs.Forest.{ancestors as ancestorsOf, aboveEvery, aboveSome, primary as primaryOf, onRoute, route as routeOf};
+ghost use Rattle.forest.specs.Forest.{ancestors as ancestorsOf, aboveEvery, aboveSome, primary as primaryOf};
+ghost use Rattle.forest.specs.Forest.{onRoute, route as routeOf};
 ghost use Rattle.forest.specs.Routes.{ancestorTable, Ancestors};
 
 // The primary of each group, 32 where it has none, and its route, empty where it has no primary.
@@ -90,7 +91,7 @@ fn above_some(above: &[u32; 32], group: u32) -> u32
     set
 }
 
-// The primary of a group in every such forest; 32 where it has none.
+// A group's primary in every such forest; 32 where it has none.
 fn primary_by(above: &[u32; 32], group: u32) -> usize
     ensures { λ r. ⌜ ((ps : List ℕ) → Ancestors ps group (now (above .entry)) → r ≡ primaryOf ps group) ⌝ }
 {
@@ -121,7 +122,7 @@ fn route_by(above: &[u32; 32], group: u32, primary: usize) -> u32
     below_primary(above, some, primary)
 }
 
-// The primary of a group; 32 where it has none.
+// A group's primary; 32 where it has none.
 pub fn primary(parents: [u8; 32], group: u32) -> usize
     ensures { λ r. ⌜ r ≡ primaryOf parents group ⌝ }
 {

@@ -14,7 +14,7 @@ struct Draw {
     seed: u32,
 }
 
-// A list of groups, and the seed that the next list starts from.
+// A table of groups, and the seed that the next table starts from.
 struct Table {
     groups: [u32; 24],
     seed: u32,

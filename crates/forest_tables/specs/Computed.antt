@@ -7,6 +7,7 @@ use lib.ListN.{getD}
 use Rattle.sets.specs.Sets.{includingIf, collect}
 use Rattle.layout.specs.Tables.{tabulate}
 use Rattle.forest.specs.Forest.{parent, primary, route}
+use Rattle.forest.specs.Calls.{counted}
 use Rattle.bench_store.specs.Values.{columnAt}
 
 unfoldable pub isChild : List ℕ → ℕ → ℕ → Bool
@@ -21,14 +22,18 @@ withChild u c table = tabulate 32 (λ v. includingIf (getD table v 0) c (eqb u v
 
 -- ---- the list: its columns, one after the other
 
-unfoldable pub tablesOf : (units count : ℕ) (groups parents : List ℕ) → List ℕ
-tablesOf n c gs ps =
+unfoldable pub columnsOf : (units count : ℕ) (groups parents : List ℕ) → List ℕ
+columnsOf n c gs ps =
     tabulate 24 (λ g. getD gs g 0)
     ++ tabulate 24 (λ g. route ps (getD gs g 0))
     ++ tabulate 24 (λ g. primary ps (getD gs g 0))
     ++ tabulate 32 (childrenOf ps)
     ++ tabulate 32 (λ u. getD ps u 0)
     ++ n % 4294967296 ∷ n / 4294967296 ∷ c % 4294967296 ∷ c / 4294967296 ∷ []
+
+-- of the groups that count: places past them are not read
+unfoldable pub tablesOf : (units count : ℕ) (groups parents : List ℕ) → List ℕ
+tablesOf n c gs ps = columnsOf n c (counted c gs) ps
 
 -- ---- what the list says
 

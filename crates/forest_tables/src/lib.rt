@@ -114,8 +114,8 @@ fn entry(
     upper(count)
 }
 
-// The list of units, groups and parents. The columns begin so that number i has place i % 24 in a column of groups, and place
-// (i + 24) % 32 in one of units.
+// The list of units, of the groups that count, and of parents. The columns begin so that number i has place i % 24 in a column of groups,
+// and place (i + 24) % 32 in one of units.
 pub fn of(
     units: usize,
     groups: [u32; Limits::GROUPS],
@@ -124,8 +124,9 @@ pub fn of(
 ) -> [u32; Tables::SIZE]
     ensures { λ r. ⌜ r ≡ tablesOf units count groups parents ⌝ }
 {
+    let counted = forest::counting::counted(groups, count);
     let children = children_of(parents);
-    let found = forest::routes::route_table(parents, groups);
+    let found = forest::routes::route_table(parents, counted);
     let routes = found.routes;
     let primaries = found.primaries;
     let mut table = [0u32; Tables::SIZE];
@@ -135,7 +136,7 @@ pub fn of(
         let u = (i + Limits::GROUPS) % Limits::UNITS;
         table[i] = entry(
             i,
-            groups[g],
+            counted[g],
             routes[g],
             primaries[g],
             children[u],

@@ -1,7 +1,8 @@
--- What a caller knows of a function whose contract has no `requires` and says its result and its last lists by a relation or by rules, for the steps `calls-related` and `calls` of
--- Calling.antt.
+-- What a caller knows of a function whose contract has no `requires` and says its result and its last lists by a relation or by rules, for
+-- the steps `calls-related` and `calls` of Calling.antt.
 --     Data ps          the values and the lists passed: what the relation and the rules are over
---     promising        such a function, of its parameters, its result's type and the relation that its one `ensures` states of the data, the result and the last lists
+--     promising        such a function, of its parameters, its result's type and the relation that its one `ensures` states of the data,
+--                      the result and the last lists
 --     Telling          how the contract says what they come to: `the-result`, `the-list`, `result-and-list`, `result-and-lists`
 --     stating          such a function, of its parameters, its result's type and the two rules
 --     by-rule          one whose parameters are all plain data and whose contract is `r ≡ rule d`
@@ -20,7 +21,8 @@ use denote.RattleType.{RattleType, Denots}
 use denote.Signature.{typesAt}
 use denote.Triple.End.{all, Fins, Outs, outs}
 use Rattle.hand_proofs.proofs.Values.{ByValue}
-use Rattle.hand_proofs.proofs.Calling.{Pass, value, lent, shown, relayed, slots, Handed, Names, Ends, args, ends, RelationalCallee, Callee, says-also}
+use Rattle.hand_proofs.proofs.Calling.{Pass, value, lent, shown, relayed, slots, Handed, Names, Ends, args, ends, RelationalCallee}
+use Rattle.hand_proofs.proofs.Calling.{Callee, says-also}
 
 module _ {n : ℕ} where
   abbrev pub Data : List (Pass n) → Type 0
@@ -71,13 +73,18 @@ module _ {n : ℕ} where
 
 -- ---- by a relation
 module _ {M : Type 1} (𝓤 : URA M) (H : Heap 𝓤) (A : Atoms 𝓤) where
-  abbrev pub promising : (n : ℕ) (ps : List (Pass n)) (S : RattleType) → ByValue S → (Data ps → S .Denot → Ends ps → Type 0) → RelationalCallee 𝓤 H A
+  abbrev pub promising : (n : ℕ) (ps : List (Pass n)) (S : RattleType) → ByValue S → (Data ps → S .Denot → Ends ps → Type 0)
+      → RelationalCallee 𝓤 H A
   promising n ps S B Promise = record {
     lifetimes = n;
     passes = ps;
     result = S;
     by-value = B;
-    clauses = λ κs a. record { ghost = Unit {0}; requires = λ g. emp 𝓤; ensures = λ g r end. fact 𝓤 (Promise (data-of κs ps a) r (last-lists κs ps end)) };
+    clauses = λ κs a. record {
+      ghost = Unit {0};
+      requires = λ g. emp 𝓤;
+      ensures = λ g r end. fact 𝓤 (Promise (data-of κs ps a) r (last-lists κs ps end));
+    };
     ghost-at = λ κs h δs. tt;
     asks = λ h. Unit {0};
     Says = λ h r es. Promise (handed-data ps h) r es;
@@ -100,7 +107,10 @@ abbrev pub the-list : {Y : Type 0} → Telling (Unit {0}) (Y × Unit {0})
 the-list = record { Says = λ r es r′ es′. es .0 ≡ es′ .0; exactly = λ r es r′ es′ e. (refl, λ i. (e i, tt)) }
 
 abbrev pub result-and-list : {X Y : Type 0} → Telling X (Y × Unit {0})
-result-and-list = record { Says = λ r es r′ es′. (r ≡ r′) × (es .0 ≡ es′ .0); exactly = λ r es r′ es′ e. (e .0, λ i. (e .1 i, tt)) }
+result-and-list = record {
+  Says = λ r es r′ es′. (r ≡ r′) × (es .0 ≡ es′ .0);
+  exactly = λ r es r′ es′ e. (e .0, λ i. (e .1 i, tt));
+}
 
 abbrev pub result-and-lists : {X Y Z : Type 0} → Telling X (Y × (Z × Unit {0}))
 result-and-lists = record {
@@ -109,7 +119,8 @@ result-and-lists = record {
 }
 
 module _ {M : Type 1} (𝓤 : URA M) (H : Heap 𝓤) (A : Atoms 𝓤) where
-  abbrev pub stating : (n : ℕ) (ps : List (Pass n)) (S : RattleType) → ByValue S → Telling (S .Denot) (Ends ps) → (Data ps → S .Denot) → (Data ps → Ends ps) → Callee 𝓤 H A
+  abbrev pub stating : (n : ℕ) (ps : List (Pass n)) (S : RattleType) → ByValue S → Telling (S .Denot) (Ends ps)
+      → (Data ps → S .Denot) → (Data ps → Ends ps) → Callee 𝓤 H A
   stating n ps S B t rule lists = let c = promising 𝓤 H A n ps S B (λ d r es. t .Says r es (rule d) (lists d)) in record {
     lifetimes = n;
     passes = ps;
@@ -142,4 +153,7 @@ no-others (relayed j ok R B ∷ ps) es es′ = absurd ok
 
 module _ {M : Type 1} (𝓤 : URA M) (H : Heap 𝓤) (A : Atoms 𝓤) where
   abbrev pub by-rule : (ps : List (Pass 0)) (S : RattleType) → ByValue S → (Data ps → S .Denot) → Callee 𝓤 H A
-  by-rule ps S B rule = stating 𝓤 H A 0 ps S B record { Says = λ r es r′ es′. r ≡ r′; exactly = λ r es r′ es′ e. (e, no-others ps es es′) } rule (λ d. no-lists ps)
+  by-rule ps S B rule = stating 𝓤 H A 0 ps S B record {
+    Says = λ r es r′ es′. r ≡ r′;
+    exactly = λ r es r′ es′ e. (e, no-others ps es es′);
+  } rule (λ d. no-lists ps)

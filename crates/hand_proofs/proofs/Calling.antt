@@ -1,8 +1,11 @@
--- A call in a walk, of a function whose parameters are plain data, `&mut [T]` and `&[T]`, and whose contract says its result and its last lists, exactly or by a relation.
--- One step serves every such callee (`calls`, `calls-related`, and `calls-last`, `calls-related-last`): each slice is lent for a lifetime made for the call, and is had back at the
--- list that the callee left. The context has one entry for each slice passed, at its head and in the parameters' order, before the call and after it.
---     Pass n               how a parameter is passed: `value`, `lent` (a `&mut [T]` lent again), `shown` (a `&mut [T]` lent as a `&[T]`), `relayed` (a `&[T]` lent on)
---     RelationalCallee     what a caller knows of a function: its parameters, its result, its clauses, and how they relate what is handed, the result and the lists left
+-- A call in a walk, of a function whose parameters are plain data, `&mut [T]` and `&[T]`, and whose contract says its result and its last
+-- lists, exactly or by a relation. One step serves every such callee (`calls`, `calls-related`, and `calls-last`, `calls-related-last`):
+-- each slice is lent for a lifetime made for the call, and is had back at the list that the callee left. The context has one entry for each
+-- slice passed, at its head and in the parameters' order, before the call and after it.
+--     Pass n               how a parameter is passed: `value`, `lent` (a `&mut [T]` lent again), `shown` (a `&mut [T]` lent as a `&[T]`),
+--                          `relayed` (a `&[T]` lent on)
+--     RelationalCallee     what a caller knows of a function: its parameters, its result, its clauses, and how they relate what is handed,
+--                          the result and the lists left
 --     Callee, related      one whose clauses say the result and the lists left exactly, and that as a relation
 -- It says nothing of any crate. Assumes `Given`, and that the table of calls is monotone under a frame.
 use mathlib.Core.Path.{_≡_, refl, sym, ap, subst}
@@ -20,8 +23,9 @@ use ghost.Atoms.{Atoms, sem}
 use sound.WpLaws.{FmC, evalOpds-fm}
 use contract.Monad.{fact, factI, fact-use}
 use contract.Lifetimes.{Lfts, Shares, Within, lftAt, toks}
-use types.Kit.{Given, Item, ‵, raw, _⊛_, some, later, mean, ⋆, pop, push, Post, Goal, runs, lands, settles, Soaks, Seq, cut, _$_, _∵_, !, qed, by, move, use0, use1, use3}
-use types.Kit.{split, join, pick, drop, fsplit, fjoin, frame, await, updating, now as at-once, show as witness, done}
+use types.Kit.{Given, Item, ‵, raw, _⊛_, some, later, mean, ⋆, pop, push, Post, Goal, runs, lands, settles, Soaks, Seq, cut, _$_}
+use types.Kit.{_∵_, !, qed, by, move, use0, use1, use3, split, join, pick, drop, fsplit, fjoin, frame, await, updating, now as at-once}
+use types.Kit.{show as witness, done}
 use types.Run.{Opds}
 use types.Tokens.{lft-new, lft-end}
 use denote.Exit.{yes}
@@ -36,7 +40,8 @@ use denote.Triple.Spec.{tripleOf}
 use denote.Triple.Clauses.{Ended, Clauses, Lasts, atExit, ensured, closing}
 use denote.Triple.Call.{calls-from, calls-from-last}
 use Rattle.hand_proofs.proofs.Values.{ByValue, copied}
-use Rattle.hand_proofs.proofs.Lending.{Loan, at-list, words, Holds, Views, Away, Seen, Relayed, lend, regain, show, regain-shown, relay, regain-relayed}
+use Rattle.hand_proofs.proofs.Lending.{Loan, at-list, words, Holds, Views, Away, Seen, Relayed, lend, regain, show, regain-shown}
+use Rattle.hand_proofs.proofs.Lending.{relay, regain-relayed}
 
 -- ---- n lifetimes that are made for a call
 abbrev pub News : ℕ → Type 0
@@ -58,20 +63,25 @@ module _ {M : Type 1} (𝓤 : URA M) (H : Heap 𝓤) (A : Atoms 𝓤) where
 
   module _ (W : Given 𝓤 H A) where
     begun : (n : ℕ) → ent 𝓤 (emp 𝓤) (H .⇛ (ex 𝓤 (λ (νs : News n). toks 𝓤 A n (spans n νs) (fulls n))))
-    begun zero = qed W [] ∵ updating ! $ at-once ! $ witness ! (λ (νs : News zero). toks 𝓤 A zero (spans zero νs) (fulls zero)) tt $ done !
+    begun zero = qed W [] ∵ updating ! $ at-once ! $ witness ! (λ (νs : News zero). toks 𝓤 A zero (spans zero νs) (fulls zero)) tt $
+        done !
     begun (suc n) =
-        qed W [] ∵ updating ! $ lft-new ! tt (λ ν. use0 W (later (some (λ (νs : News n). raw (toks 𝓤 A n (spans n νs) (fulls n))))) (begun n) $ await ! tt $ pick ! (λ νs.
-        at-once ! $ witness ! (λ (μs : News (suc n)). toks 𝓤 A (suc n) (spans (suc n) μs) (fulls (suc n))) (ν, νs) $ move ! (1 ∷ 0 ∷ []) $ done !))
+        qed W [] ∵ updating ! $ lft-new ! tt (λ ν. use0 W (later (some
+        (λ (νs : News n). raw (toks 𝓤 A n (spans n νs) (fulls n))))) (begun n) $ await ! tt $ pick ! (λ νs.
+        at-once ! $ witness ! (λ (μs : News (suc n)). toks 𝓤 A (suc n) (spans (suc n) μs) (fulls (suc n))) (ν, νs) $
+        move ! (1 ∷ 0 ∷ []) $ done !))
 
     over : (n : ℕ) (νs : News n) → ent 𝓤 (toks 𝓤 A n (spans n νs) (fulls n)) (H .⇛ (deads n (spans n νs)))
     over zero νs = qed W [] ∵ updating ! $ at-once ! $ done !
     over (suc n) νs =
-        qed W (‵ (flft (νs .0 ∷ []) fullShare) ∷ raw (toks 𝓤 A n (spans n (νs .1)) (fulls n)) ∷ []) ∵ updating ! $ lft-end ! tt $ move ! (1 ∷ []) $
+        qed W (‵ (flft (νs .0 ∷ []) fullShare) ∷ raw (toks 𝓤 A n (spans n (νs .1)) (fulls n)) ∷ []) ∵ updating ! $
+        lft-end ! tt $ move ! (1 ∷ []) $
         use1 W (later (raw (deads n (spans n (νs .1))))) (over n (νs .1)) $ await ! tt $ at-once ! $ move ! (1 ∷ 0 ∷ []) $ done !
 
     dead-at : (n j : ℕ) (ok : Within n j) (κs : Lfts n) → ent 𝓤 (deads n κs) (sep 𝓤 (A .dead (lftAt n j ok κs)) (deads n κs))
     dead-at zero j ok κs = absurd ok
-    dead-at (suc n) zero ok κs = via 𝓤 (sep 𝓤 (sep 𝓤 (A .dead (κs .0)) (A .dead (κs .0))) (deads n (κs .1))) (monoL 𝓤 (deads n (κs .1)) (W .lfts .dead-dup (κs .0)))
+    dead-at (suc n) zero ok κs = via 𝓤 (sep 𝓤 (sep 𝓤 (A .dead (κs .0)) (A .dead (κs .0))) (deads n (κs .1)))
+        (monoL 𝓤 (deads n (κs .1)) (W .lfts .dead-dup (κs .0)))
         (assoc∗ 𝓤 (A .dead (κs .0)) (A .dead (κs .0)) (deads n (κs .1)))
     dead-at (suc n) (suc j) ok κs =
         qed W (raw (A .dead (κs .0)) ∷ raw (deads n (κs .1)) ∷ []) ∵ move ! (1 ∷ []) $
@@ -87,27 +97,34 @@ module _ {M : Type 1} (𝓤 : URA M) (H : Heap 𝓤) (A : Atoms 𝓤) (W : Given
   out X O N = later (some (λ (x : X). ‵ (O x) ⊛ ‵ (N x)))
 
   -- what a callee gets of the slice is O, and what is kept N; of the others O′ and N′
-  lend-value : (X : Type 0) (P : Fml) (O N : X → Fml) → ent 𝓤 (emp 𝓤) (sem 𝓤 H A P) → ent 𝓤 (Out X O N) (Out X (λ x. fsep P (O x)) N)
+  lend-value : (X : Type 0) (P : Fml) (O N : X → Fml) → ent 𝓤 (emp 𝓤) (sem 𝓤 H A P)
+      → ent 𝓤 (Out X O N) (Out X (λ x. fsep P (O x)) N)
   lend-value X P O N p =
       qed W (out X O N ∷ []) ∵ updating ! $ await ! tt $ pick ! (λ x. split ! $ use0 W (‵ P) p $ fjoin ! $ at-once ! $
       witness ! (λ (y : X). sep 𝓤 (sem 𝓤 H A (fsep P (O y))) (sem 𝓤 H A (N y))) x $
       done !)
 
-  lend-slice : (Q : SProp 𝓤) (X Y : Type 0) (O N : X → Fml) (O′ N′ : Y → Fml) → ent 𝓤 Q (Out X O N) → ent 𝓤 (sep 𝓤 Q (Out Y O′ N′))
+  lend-slice : (Q : SProp 𝓤) (X Y : Type 0) (O N : X → Fml) (O′ N′ : Y → Fml) → ent 𝓤 Q (Out X O N)
+      → ent 𝓤 (sep 𝓤 Q (Out Y O′ N′))
       (Out (X × Y) (λ z. fsep (O (z .0)) (O′ (z .1))) (λ z. fsep (N (z .0)) (N′ (z .1))))
   lend-slice Q X Y O N O′ N′ q =
-      qed W (raw Q ∷ out Y O′ N′ ∷ []) ∵ updating ! $ use1 W (out X O N) q $ await ! tt $ pick ! (λ x. split ! $ move ! (2 ∷ []) $ await ! tt $ pick ! (λ y. split ! $
-      at-once ! $ witness ! (λ (z : X × Y). sep 𝓤 (sem 𝓤 H A (fsep (O (z .0)) (O′ (z .1)))) (sem 𝓤 H A (fsep (N (z .0)) (N′ (z .1))))) (x, y) $
+      qed W (raw Q ∷ out Y O′ N′ ∷ []) ∵ updating ! $ use1 W (out X O N) q $ await ! tt $
+      pick ! (λ x. split ! $ move ! (2 ∷ []) $ await ! tt $ pick ! (λ y. split ! $
+      at-once ! $ witness ! (λ (z : X × Y). sep 𝓤 (sem 𝓤 H A (fsep (O (z .0)) (O′ (z .1))))
+      (sem 𝓤 H A (fsep (N (z .0)) (N′ (z .1))))) (x, y) $
       move ! (2 ∷ 0 ∷ []) $ fjoin ! $ frame ! $ move ! (1 ∷ 0 ∷ []) $ fjoin ! $ done !))
 
   -- the lifetimes are over (D); N was kept of the slice, and E is said of its last list
   back-slice : (D : SProp 𝓤) (κ : Lft) → ent 𝓤 D (sep 𝓤 (A .dead κ) D) → (P N E N′ E′ : Fml) (Q : SProp 𝓤)
       → ent 𝓤 (sep 𝓤 (A .dead κ) (sep 𝓤 (sem 𝓤 H A N) (sem 𝓤 H A E))) (H .⇛ (sem 𝓤 H A P))
-      → ent 𝓤 (sep 𝓤 D (sep 𝓤 (sem 𝓤 H A N′) (sem 𝓤 H A E′))) (H .⇛ Q) → ent 𝓤 (sep 𝓤 D (sep 𝓤 (sem 𝓤 H A (fsep N N′)) (sem 𝓤 H A (fsep E E′)))) (H .⇛ (sep 𝓤 (sem 𝓤 H A P) Q))
+      → ent 𝓤 (sep 𝓤 D (sep 𝓤 (sem 𝓤 H A N′) (sem 𝓤 H A E′))) (H .⇛ Q)
+      → ent 𝓤 (sep 𝓤 D (sep 𝓤 (sem 𝓤 H A (fsep N N′)) (sem 𝓤 H A (fsep E E′)))) (H .⇛ (sep 𝓤 (sem 𝓤 H A P) Q))
   back-slice D κ dead P N E N′ E′ Q p q =
-      qed W (raw D ∷ ‵ (fsep N N′) ∷ ‵ (fsep E E′) ∷ []) ∵ updating ! $ use1 W (‵ (fdead κ) ⊛ raw D) dead $ split ! $ move ! (2 ∷ []) $ fsplit ! $ move ! (4 ∷ []) $ fsplit ! $
+      qed W (raw D ∷ ‵ (fsep N N′) ∷ ‵ (fsep E E′) ∷ []) ∵ updating ! $ use1 W (‵ (fdead κ) ⊛ raw D) dead $ split ! $
+      move ! (2 ∷ []) $ fsplit ! $ move ! (4 ∷ []) $ fsplit ! $
       -- [E; E′; N; N′; κ is over; D]
-      move ! (4 ∷ 2 ∷ 0 ∷ []) $ use3 W (later (‵ P)) p $ await ! tt $ move ! (3 ∷ 2 ∷ 1 ∷ []) $ use3 W (later (raw Q)) q $ await ! tt $ at-once ! $ move ! (1 ∷ 0 ∷ []) $ done !
+      move ! (4 ∷ 2 ∷ 0 ∷ []) $ use3 W (later (‵ P)) p $ await ! tt $ move ! (3 ∷ 2 ∷ 1 ∷ []) $ use3 W (later (raw Q)) q $
+      await ! tt $ at-once ! $ move ! (1 ∷ 0 ∷ []) $ done !
 
   -- where nothing is said of it
   no-last : (κ : Lft) (P N : Fml) → ent 𝓤 (sep 𝓤 (A .dead κ) (sem 𝓤 H A N)) (H .⇛ (sem 𝓤 H A P))
@@ -241,33 +258,42 @@ module _ {n : ℕ} where
 
     module _ {M : Type 1} (𝓤 : URA M) (H : Heap 𝓤) (A : Atoms 𝓤) (W : Given 𝓤 H A) where
       -- the caller's entries give what the callee's parameters own, beside what the caller keeps
-      lend-all : (ps : List (Pass n)) (h : Handed ps) → Fit ps h → ent 𝓤 (⋆ 𝓤 H A (held ps h)) (Out 𝓤 H A W (Names ps) (owned-by ps h) (kept-back ps h))
-      lend-all [] h fit = qed W [] ∵ updating ! $ at-once ! $ witness ! (λ (δs : Names []). sep 𝓤 (sem 𝓤 H A (owned-by [] h δs)) (sem 𝓤 H A (kept-back [] h δs))) tt $ nothing ! $
+      lend-all : (ps : List (Pass n)) (h : Handed ps) → Fit ps h → ent 𝓤 (⋆ 𝓤 H A (held ps h))
+          (Out 𝓤 H A W (Names ps) (owned-by ps h) (kept-back ps h))
+      lend-all [] h fit = qed W [] ∵ updating ! $ at-once ! $ witness !
+          (λ (δs : Names []). sep 𝓤 (sem 𝓤 H A (owned-by [] h δs)) (sem 𝓤 H A (kept-back [] h δs))) tt $ nothing ! $
           frame ! $ done !
       lend-all (value R B ∷ ps) h fit =
           via 𝓤 (Out 𝓤 H A W (Names ps) (owned-by ps (h .1)) (kept-back ps (h .1))) (lend-all ps (h .1) (fit .1))
-          (lend-value 𝓤 H A W (Names ps) (R .own (h .0) (B .word (h .0) ∷ [])) (owned-by ps (h .1)) (kept-back ps (h .1)) (B .makes 𝓤 H A W (h .0) (B .word (h .0) ∷ []) (fit .0)))
+          (lend-value 𝓤 H A W (Names ps) (R .own (h .0) (B .word (h .0) ∷ [])) (owned-by ps (h .1)) (kept-back ps (h .1))
+          (B .makes 𝓤 H A W (h .0) (B .word (h .0) ∷ []) (fit .0)))
       lend-all (lent j ok R ∷ ps) h fit = let κ = lftAt n j ok κs in let L = h .0 .0 in let ys = h .0 .1 in
-          via 𝓤 (sep 𝓤 (sem 𝓤 H A (Holds R L ys)) (⋆ 𝓤 H A (held ps (h .1)))) (pop 𝓤 H A (‵ (Holds R L ys)) (held ps (h .1)))
+          via 𝓤 (sep 𝓤 (sem 𝓤 H A (Holds R L ys)) (⋆ 𝓤 H A (held ps (h .1))))
+          (pop 𝓤 H A (‵ (Holds R L ys)) (held ps (h .1)))
           (via 𝓤 (sep 𝓤 (sem 𝓤 H A (Holds R L ys)) (Out 𝓤 H A W (Names ps) (owned-by ps (h .1)) (kept-back ps (h .1))))
           (monoR 𝓤 (sem 𝓤 H A (Holds R L ys)) (lend-all ps (h .1) fit))
-          (lend-slice 𝓤 H A W (sem 𝓤 H A (Holds R L ys)) GName (Names ps) (λ δ. MutSlice (named j) κ R .own (at-list R L δ ys) (words R L)) (λ δ. Away R L κ δ ys)
+          (lend-slice 𝓤 H A W (sem 𝓤 H A (Holds R L ys)) GName (Names ps)
+          (λ δ. MutSlice (named j) κ R .own (at-list R L δ ys) (words R L)) (λ δ. Away R L κ δ ys)
           (owned-by ps (h .1))
           (kept-back ps (h .1))
           (lend R L 𝓤 H A W (named j) κ ys)))
       lend-all (shown j ok R ∷ ps) h fit = let κ = lftAt n j ok κs in let L = h .0 .0 in let ys = h .0 .1 in
-          via 𝓤 (sep 𝓤 (sem 𝓤 H A (Holds R L ys)) (⋆ 𝓤 H A (held ps (h .1)))) (pop 𝓤 H A (‵ (Holds R L ys)) (held ps (h .1)))
+          via 𝓤 (sep 𝓤 (sem 𝓤 H A (Holds R L ys)) (⋆ 𝓤 H A (held ps (h .1))))
+          (pop 𝓤 H A (‵ (Holds R L ys)) (held ps (h .1)))
           (via 𝓤 (sep 𝓤 (sem 𝓤 H A (Holds R L ys)) (Out 𝓤 H A W (Names ps) (owned-by ps (h .1)) (kept-back ps (h .1))))
           (monoR 𝓤 (sem 𝓤 H A (Holds R L ys)) (lend-all ps (h .1) fit))
-          (lend-slice 𝓤 H A W (sem 𝓤 H A (Holds R L ys)) GName (Names ps) (λ δ. ShrSlice (named j) κ R .own (at-list R L δ ys) (words R L)) (λ δ. Seen R L κ ys)
+          (lend-slice 𝓤 H A W (sem 𝓤 H A (Holds R L ys)) GName (Names ps)
+          (λ δ. ShrSlice (named j) κ R .own (at-list R L δ ys) (words R L)) (λ δ. Seen R L κ ys)
           (owned-by ps (h .1))
           (kept-back ps (h .1))
           (show R L 𝓤 H A W (named j) κ ys)))
       lend-all (relayed j ok R B ∷ ps) h fit = let κ = lftAt n j ok κs in let L = h .0 .0 in let ys = h .0 .1 in
-          via 𝓤 (sep 𝓤 (sem 𝓤 H A (Views R L ys)) (⋆ 𝓤 H A (held ps (h .1)))) (pop 𝓤 H A (‵ (Views R L ys)) (held ps (h .1)))
+          via 𝓤 (sep 𝓤 (sem 𝓤 H A (Views R L ys)) (⋆ 𝓤 H A (held ps (h .1))))
+          (pop 𝓤 H A (‵ (Views R L ys)) (held ps (h .1)))
           (via 𝓤 (sep 𝓤 (sem 𝓤 H A (Views R L ys)) (Out 𝓤 H A W (Names ps) (owned-by ps (h .1)) (kept-back ps (h .1))))
           (monoR 𝓤 (sem 𝓤 H A (Views R L ys)) (lend-all ps (h .1) fit))
-          (lend-slice 𝓤 H A W (sem 𝓤 H A (Views R L ys)) GName (Names ps) (λ δ. ShrSlice (named j) κ R .own (at-list R L δ ys) (words R L)) (λ δ. Relayed R L κ ys)
+          (lend-slice 𝓤 H A W (sem 𝓤 H A (Views R L ys)) GName (Names ps)
+          (λ δ. ShrSlice (named j) κ R .own (at-list R L δ ys) (words R L)) (λ δ. Relayed R L κ ys)
           (owned-by ps (h .1))
           (kept-back ps (h .1))
           (relay R L 𝓤 H A W (named j) κ ys (λ x. B .word x ∷ []) (B .told) (copied R B 𝓤 H A W))))
@@ -276,30 +302,39 @@ module _ {n : ℕ} where
       back-all : (ps : List (Pass n)) (h : Handed ps) (δs : Names ps) (ws : Bound ps h δs)
           → ent 𝓤 (sep 𝓤 (deads 𝓤 H A n κs) (sep 𝓤 (sem 𝓤 H A (kept-back ps h δs)) (sem 𝓤 H A (Said ps h δs ws))))
           (H .⇛ (⋆ 𝓤 H A (held ps (after ps h (ends ps (args ps h δs) ws)))))
-      back-all [] h δs ws = qed W (raw (deads 𝓤 H A n κs) ∷ ‵ ftrue ∷ ‵ ftrue ∷ []) ∵ updating ! $ at-once ! $ drop ! $ drop ! $ done !
+      back-all [] h δs ws = qed W (raw (deads 𝓤 H A n κs) ∷ ‵ ftrue ∷ ‵ ftrue ∷ []) ∵ updating ! $ at-once ! $
+          drop ! $ drop ! $ done !
       back-all (value R B ∷ ps) h δs ws =
-          qed W (raw (deads 𝓤 H A n κs) ∷ ‵ (kept-back ps (h .1) δs) ∷ ‵ (Said (value R B ∷ ps) h δs ws) ∷ []) ∵ move ! (2 ∷ []) $ fsplit ! $ drop ! $ move ! (1 ∷ 2 ∷ 0 ∷ []) $
+          qed W (raw (deads 𝓤 H A n κs) ∷ ‵ (kept-back ps (h .1) δs) ∷ ‵ (Said (value R B ∷ ps) h δs ws) ∷ []) ∵
+          move ! (2 ∷ []) $ fsplit ! $ drop ! $ move ! (1 ∷ 2 ∷ 0 ∷ []) $
           by ! (back-all ps (h .1) δs (ws .1))
-      back-all (lent j ok R ∷ ps) h δs ws = let κ = lftAt n j ok κs in let L = h .0 .0 in let ys = h .0 .1 in let δ = δs .0 in let zs = ws .0 in
+      back-all (lent j ok R ∷ ps) h δs ws = let κ = lftAt n j ok κs in let L = h .0 .0 in let ys = h .0 .1 in
+          let δ = δs .0 in let zs = ws .0 in
           let Γ = held ps (after ps (h .1) (ends ps (args ps (h .1) (δs .1)) (ws .1))) in
           via 𝓤 (H .⇛ (sep 𝓤 (sem 𝓤 H A (Holds R L zs)) (⋆ 𝓤 H A Γ)))
-          (back-slice 𝓤 H A W (deads 𝓤 H A n κs) κ (dead-at 𝓤 H A W n j ok κs) (Holds R L zs) (Away R L κ δ ys) (fsep (finally R δ zs) (feq ℕ (length zs) (length ys)))
+          (back-slice 𝓤 H A W (deads 𝓤 H A n κs) κ (dead-at 𝓤 H A W n j ok κs) (Holds R L zs) (Away R L κ δ ys)
+          (fsep (finally R δ zs) (feq ℕ (length zs) (length ys)))
           (kept-back ps (h .1) (δs .1))
-          (Said ps (h .1) (δs .1) (ws .1)) (⋆ 𝓤 H A Γ) (regain R L 𝓤 H A W (named j) κ ys δ zs) (back-all ps (h .1) (δs .1) (ws .1)))
+          (Said ps (h .1) (δs .1) (ws .1)) (⋆ 𝓤 H A Γ) (regain R L 𝓤 H A W (named j) κ ys δ zs)
+          (back-all ps (h .1) (δs .1) (ws .1)))
           (W .laws .⇛-mono _ _ (push 𝓤 H A (‵ (Holds R L zs)) Γ))
       back-all (shown j ok R ∷ ps) h δs ws = let κ = lftAt n j ok κs in let L = h .0 .0 in let ys = h .0 .1 in
           let Γ = held ps (after ps (h .1) (ends ps (args ps (h .1) (δs .1)) (ws .1))) in
           via 𝓤 (H .⇛ (sep 𝓤 (sem 𝓤 H A (Holds R L ys)) (⋆ 𝓤 H A Γ)))
-          (back-slice 𝓤 H A W (deads 𝓤 H A n κs) κ (dead-at 𝓤 H A W n j ok κs) (Holds R L ys) (Seen R L κ ys) ftrue (kept-back ps (h .1) (δs .1)) (Said ps (h .1) (δs .1) (ws .1))
+          (back-slice 𝓤 H A W (deads 𝓤 H A n κs) κ (dead-at 𝓤 H A W n j ok κs) (Holds R L ys) (Seen R L κ ys) ftrue
+          (kept-back ps (h .1) (δs .1)) (Said ps (h .1) (δs .1) (ws .1))
           (⋆ 𝓤 H A Γ)
-          (no-last 𝓤 H A W κ (Holds R L ys) (Seen R L κ ys) (regain-shown R L 𝓤 H A W (named j) κ ys)) (back-all ps (h .1) (δs .1) (ws .1)))
+          (no-last 𝓤 H A W κ (Holds R L ys) (Seen R L κ ys) (regain-shown R L 𝓤 H A W (named j) κ ys))
+          (back-all ps (h .1) (δs .1) (ws .1)))
           (W .laws .⇛-mono _ _ (push 𝓤 H A (‵ (Holds R L ys)) Γ))
       back-all (relayed j ok R B ∷ ps) h δs ws = let κ = lftAt n j ok κs in let L = h .0 .0 in let ys = h .0 .1 in
           let Γ = held ps (after ps (h .1) (ends ps (args ps (h .1) (δs .1)) (ws .1))) in
           via 𝓤 (H .⇛ (sep 𝓤 (sem 𝓤 H A (Views R L ys)) (⋆ 𝓤 H A Γ)))
-          (back-slice 𝓤 H A W (deads 𝓤 H A n κs) κ (dead-at 𝓤 H A W n j ok κs) (Views R L ys) (Relayed R L κ ys) ftrue (kept-back ps (h .1) (δs .1))
+          (back-slice 𝓤 H A W (deads 𝓤 H A n κs) κ (dead-at 𝓤 H A W n j ok κs) (Views R L ys) (Relayed R L κ ys) ftrue
+          (kept-back ps (h .1) (δs .1))
           (Said ps (h .1) (δs .1) (ws .1)) (⋆ 𝓤 H A Γ)
-          (no-last 𝓤 H A W κ (Views R L ys) (Relayed R L κ ys) (regain-relayed R L 𝓤 H A W (named j) κ ys)) (back-all ps (h .1) (δs .1) (ws .1)))
+          (no-last 𝓤 H A W κ (Views R L ys) (Relayed R L κ ys) (regain-relayed R L 𝓤 H A W (named j) κ ys))
+          (back-all ps (h .1) (δs .1) (ws .1)))
           (W .laws .⇛-mono _ _ (push 𝓤 H A (‵ (Views R L ys)) Γ))
 
 -- ---- a context and as many entries before it that say nothing, or as many less
@@ -316,23 +351,30 @@ module _ {M : Type 1} {𝓤 : URA M} where
 module _ {M : Type 1} (𝓤 : URA M) (H : Heap 𝓤) (A : Atoms 𝓤) (W : Given 𝓤 H A) (Γ : List (Item 𝓤)) where
   fill-gaps : (k : ℕ) → ent 𝓤 (⋆ 𝓤 H A Γ) (⋆ 𝓤 H A (gaps k Γ))
   fill-gaps zero = id⊢ 𝓤 (⋆ 𝓤 H A Γ)
-  fill-gaps (suc k) = via 𝓤 (⋆ 𝓤 H A (gaps k Γ)) (fill-gaps k) (via 𝓤 (sep 𝓤 (emp 𝓤) (⋆ 𝓤 H A (gaps k Γ))) (emp∗ 𝓤 (⋆ 𝓤 H A (gaps k Γ))) (push 𝓤 H A (‵ ftrue) (gaps k Γ)))
+  fill-gaps (suc k) = via 𝓤 (⋆ 𝓤 H A (gaps k Γ)) (fill-gaps k)
+      (via 𝓤 (sep 𝓤 (emp 𝓤) (⋆ 𝓤 H A (gaps k Γ))) (emp∗ 𝓤 (⋆ 𝓤 H A (gaps k Γ)))
+      (push 𝓤 H A (‵ ftrue) (gaps k Γ)))
 
   clear-gaps : (k : ℕ) → ent 𝓤 (⋆ 𝓤 H A (gaps k Γ)) (⋆ 𝓤 H A Γ)
   clear-gaps zero = id⊢ 𝓤 (⋆ 𝓤 H A Γ)
-  clear-gaps (suc k) = via 𝓤 (sep 𝓤 (emp 𝓤) (⋆ 𝓤 H A (gaps k Γ))) (pop 𝓤 H A (‵ ftrue) (gaps k Γ)) (via 𝓤 (⋆ 𝓤 H A (gaps k Γ)) (snd∗ 𝓤 (emp 𝓤) (⋆ 𝓤 H A (gaps k Γ))) (clear-gaps k))
+  clear-gaps (suc k) = via 𝓤 (sep 𝓤 (emp 𝓤) (⋆ 𝓤 H A (gaps k Γ))) (pop 𝓤 H A (‵ ftrue) (gaps k Γ))
+      (via 𝓤 (⋆ 𝓤 H A (gaps k Γ)) (snd∗ 𝓤 (emp 𝓤) (⋆ 𝓤 H A (gaps k Γ))) (clear-gaps k))
 
   -- operands that read nothing of those entries are read as well where one entry i stands in their place
-  over-gaps : {K : Type 0} {E : Env 𝓤 H} {xs : List Operand} (vs : List Val) (k : ℕ) (i : Item 𝓤) → Opds K W (gaps k Γ) E xs vs → Opds K W (i ∷ Γ) E xs vs
+  over-gaps : {K : Type 0} {E : Env 𝓤 H} {xs : List Operand} (vs : List Val) (k : ℕ) (i : Item 𝓤) → Opds K W (gaps k Γ) E xs vs
+      → Opds K W (i ∷ Γ) E xs vs
   over-gaps {K} {E} {xs} vs k i os = record {
     go = λ Kt h.
         let I = mean 𝓤 H A i in let G = ⋆ 𝓤 H A Γ in
         via 𝓤 (sep 𝓤 I G) (pop 𝓤 H A i Γ)
         (via 𝓤 (sep 𝓤 G I) (comm∗ 𝓤 I G)
         (via 𝓤 (sep 𝓤 (evalOpds 𝓤 H E xs (λ us. wand 𝓤 I (Kt us))) I)
-        (monoL 𝓤 I (via 𝓤 (⋆ 𝓤 H A (gaps k Γ)) (fill-gaps k) (os .go (λ us. wand 𝓤 I (Kt us)) (wandI 𝓤 (⋆ 𝓤 H A (gaps k Γ)) I (Kt vs)
-        (via 𝓤 (sep 𝓤 G I) (monoL 𝓤 I (clear-gaps k)) (via 𝓤 (sep 𝓤 I G) (comm∗ 𝓤 G I) (via 𝓤 (⋆ 𝓤 H A (i ∷ Γ)) (push 𝓤 H A i Γ) h)))))))
-        (evalOpds-fm 𝓤 H (W .laws) E xs (λ us. wand 𝓤 I (Kt us)) Kt I (λ us. via 𝓤 (sep 𝓤 I (wand 𝓤 I (Kt us))) (comm∗ 𝓤 (wand 𝓤 I (Kt us)) I) (apply∗ 𝓤 I (Kt us))))));
+        (monoL 𝓤 I (via 𝓤 (⋆ 𝓤 H A (gaps k Γ)) (fill-gaps k)
+        (os .go (λ us. wand 𝓤 I (Kt us)) (wandI 𝓤 (⋆ 𝓤 H A (gaps k Γ)) I (Kt vs)
+        (via 𝓤 (sep 𝓤 G I) (monoL 𝓤 I (clear-gaps k)) (via 𝓤 (sep 𝓤 I G) (comm∗ 𝓤 G I)
+        (via 𝓤 (⋆ 𝓤 H A (i ∷ Γ)) (push 𝓤 H A i Γ) h)))))))
+        (evalOpds-fm 𝓤 H (W .laws) E xs (λ us. wand 𝓤 I (Kt us)) Kt I
+        (λ us. via 𝓤 (sep 𝓤 I (wand 𝓤 I (Kt us))) (comm∗ 𝓤 (wand 𝓤 I (Kt us)) I) (apply∗ 𝓤 I (Kt us))))));
   }
 
 -- ---- a callee, and a call of it
@@ -358,9 +400,12 @@ pub record RelationalCallee {M : Type 1} (𝓤 : URA M) (H : Heap 𝓤) (A : Ato
   pub asks : Handed passes → Type 0
   pub Says : Handed passes → result .Denot → Ends passes → Type 0
   -- that its clauses say so
-  pub enters : (κs : Lfts lifetimes) (h : Handed passes) (δs : Names passes) → asks h → ent 𝓤 (emp 𝓤) (clauses κs (args κs passes h δs) .requires (ghost-at κs h δs))
-  pub tells : (κs : Lfts lifetimes) (h : Handed passes) (δs : Names passes) (r : result .Denot) (ws : Lasts (endedOf lifetimes passes result) κs (args κs passes h δs)) → asks h
-      → ent 𝓤 (clauses κs (args κs passes h δs) .ensures (ghost-at κs h δs) r (atExit (endedOf lifetimes passes result) κs (args κs passes h δs) ws))
+  pub enters : (κs : Lfts lifetimes) (h : Handed passes) (δs : Names passes) → asks h
+      → ent 𝓤 (emp 𝓤) (clauses κs (args κs passes h δs) .requires (ghost-at κs h δs))
+  pub tells : (κs : Lfts lifetimes) (h : Handed passes) (δs : Names passes) (r : result .Denot)
+      (ws : Lasts (endedOf lifetimes passes result) κs (args κs passes h δs)) → asks h
+      → ent 𝓤 (clauses κs (args κs passes h δs) .ensures (ghost-at κs h δs) r
+      (atExit (endedOf lifetimes passes result) κs (args κs passes h δs) ws))
       (fact 𝓤 (Says h r (ends κs passes (args κs passes h δs) ws)))
 
 -- one whose contract says its result and the lists that it leaves exactly
@@ -376,9 +421,12 @@ pub record Callee {M : Type 1} (𝓤 : URA M) (H : Heap 𝓤) (A : Atoms 𝓤) :
   pub answer : Handed passes → result .Denot
   pub leaves : Handed passes → Ends passes
   -- that its clauses say so
-  pub enters : (κs : Lfts lifetimes) (h : Handed passes) (δs : Names passes) → asks h → ent 𝓤 (emp 𝓤) (clauses κs (args κs passes h δs) .requires (ghost-at κs h δs))
-  pub exact : (κs : Lfts lifetimes) (h : Handed passes) (δs : Names passes) (r : result .Denot) (ws : Lasts (endedOf lifetimes passes result) κs (args κs passes h δs)) → asks h
-      → ent 𝓤 (clauses κs (args κs passes h δs) .ensures (ghost-at κs h δs) r (atExit (endedOf lifetimes passes result) κs (args κs passes h δs) ws))
+  pub enters : (κs : Lfts lifetimes) (h : Handed passes) (δs : Names passes) → asks h
+      → ent 𝓤 (emp 𝓤) (clauses κs (args κs passes h δs) .requires (ghost-at κs h δs))
+  pub exact : (κs : Lfts lifetimes) (h : Handed passes) (δs : Names passes) (r : result .Denot)
+      (ws : Lasts (endedOf lifetimes passes result) κs (args κs passes h δs)) → asks h
+      → ent 𝓤 (clauses κs (args κs passes h δs) .ensures (ghost-at κs h δs) r
+      (atExit (endedOf lifetimes passes result) κs (args κs passes h δs) ws))
       (fact 𝓤 ((r ≡ answer h) × (ends κs passes (args κs passes h δs) ws ≡ leaves h)))
 
 module _ {M : Type 1} {𝓤 : URA M} {H : Heap 𝓤} {A : Atoms 𝓤} where
@@ -398,7 +446,8 @@ module _ {M : Type 1} {𝓤 : URA M} {H : Heap 𝓤} {A : Atoms 𝓤} where
 
   abbrev pub contract-related : RelationalCallee 𝓤 H A → Contract 𝓤
   contract-related c =
-      tripleOf 𝓤 H A (signatureOf (c .lifetimes) (c .passes) (c .result)) (closing 𝓤 H A (endedOf (c .lifetimes) (c .passes) (c .result)) (c .clauses))
+      tripleOf 𝓤 H A (signatureOf (c .lifetimes) (c .passes) (c .result))
+      (closing 𝓤 H A (endedOf (c .lifetimes) (c .passes) (c .result)) (c .clauses))
 
   abbrev pub contractOf : Callee 𝓤 H A → Contract 𝓤
   contractOf c = contract-related (related c)
@@ -413,7 +462,10 @@ module _ {M : Type 1} {𝓤 : URA M} {H : Heap 𝓤} {A : Atoms 𝓤} where
       live = toks 𝓤 A (c .lifetimes) at-lfts (fulls (c .lifetimes))
 
       abbrev bound : contract-related c .Ghost
-      bound = ((at-lfts, fulls (c .lifetimes), tt, args at-lfts (c .passes) h δs, machines at-lfts (c .passes) h), c .ghost-at at-lfts h δs)
+      bound = (
+        (at-lfts, fulls (c .lifetimes), tt, args at-lfts (c .passes) h δs, machines at-lfts (c .passes) h),
+        c .ghost-at at-lfts h δs,
+      )
 
       abbrev stay : Fml
       stay = kept-back at-lfts (c .passes) h δs
@@ -424,47 +476,62 @@ module _ {M : Type 1} {𝓤 : URA M} {H : Heap 𝓤} {A : Atoms 𝓤} where
       abbrev Post-of : Val → SProp 𝓤
       Post-of w = sep 𝓤 (contract-related c .post bound w) (sem 𝓤 H A stay)
 
-    -- what a call goes on with: its result r, the lists es that it leaves and what it says of them give X of the entries after the call and the result's machine value
+    -- what a call goes on with: its result r, the lists es that it leaves and what it says of them give X of the entries after the call and
+    -- the result's machine value
     abbrev pub Then : (List (Item 𝓤) → Val → Type 1) → Type 1
     Then X = (r : c .result .Denot) (es : Ends (c .passes)) → c .Says h r es → Is (c .result) r (c .by-value .word r ∷ [])
         → X (held (c .passes) (after (c .passes) h es)) (c .by-value .word r)
 
     module _ (W : Given 𝓤 H A) {K : Type 0} (Γ : List (Item 𝓤)) (ask : c .asks h) where
       -- once it has returned w: the slices are back, and w is the machine value of a result of which the contract holds
-      returned : K → (νs : News (c .lifetimes)) (δs : Names (c .passes)) (w : Val) (G : Val → Goal 𝓤 H) → Soaks (G w) → Then (λ Δ v. Seq K W (Δ ++ Γ) (G v))
+      returned : K → (νs : News (c .lifetimes)) (δs : Names (c .passes)) (w : Val) (G : Val → Goal 𝓤 H) → Soaks (G w)
+          → Then (λ Δ v. Seq K W (Δ ++ Γ) (G v))
           → Seq K W (raw (Post-of νs δs w) ∷ Γ) (G w)
       returned t νs δs w G z k =
-          let κs = at-lfts νs δs in let T = endedOf (c .lifetimes) (c .passes) (c .result) in let a = args κs (c .passes) h δs in let g = c .ghost-at κs h δs in
+          let κs = at-lfts νs δs in let T = endedOf (c .lifetimes) (c .passes) (c .result) in let a = args κs (c .passes) h δs in
+          let g = c .ghost-at κs h δs in
           let S = c .result in
-          use1 W (later (some (λ (r : S .Denot). (raw (live νs δs) ⊛ ‵ (S .own r (w ∷ []))) ⊛ raw (ensured 𝓤 H A T (c .clauses) κs a g r))) ⊛ ‵ (stay νs δs)) (id⊢ 𝓤 _) $ split t $
+          use1 W (later (some (λ (r : S .Denot). (raw (live νs δs) ⊛ ‵ (S .own r (w ∷ []))) ⊛ raw
+          (ensured 𝓤 H A T (c .clauses) κs a g r))) ⊛ ‵ (stay νs δs)) (id⊢ 𝓤 _) $ split t $
           await t z $
           pick t (λ r.
-          split t $ move t (1 ∷ []) $ use1 W (some (λ (ws : Lasts T κs a). ‵ (Said κs (c .passes) h δs ws) ⊛ raw (c .clauses κs a .ensures g r (atExit T κs a ws)))) (id⊢ 𝓤 _) $
+          split t $ move t (1 ∷ []) $ use1 W (some (λ (ws : Lasts T κs a). ‵ (Said κs (c .passes) h δs ws) ⊛ raw
+          (c .clauses κs a .ensures g r (atExit T κs a ws)))) (id⊢ 𝓤 _) $
           pick t (λ ws.
-          let es : Ends (c .passes) = ends κs (c .passes) a ws in let left : List (Item 𝓤) = held (c .passes) (after (c .passes) h es) in
-          split t $ move t (1 ∷ []) $ use1 W (raw (fact 𝓤 (c .Says h r es))) (c .tells κs h δs r ws ask) $ heard t (c .Says h r es) (λ said.
+          let es : Ends (c .passes) = ends κs (c .passes) a ws in let left : List (Item 𝓤) = held (c .passes)
+          (after (c .passes) h es) in
+          split t $ move t (1 ∷ []) $ use1 W (raw (fact 𝓤 (c .Says h r es))) (c .tells κs h δs r ws ask) $
+          heard t (c .Says h r es) (λ said.
           -- [what says the last lists; the tokens and the result; what is kept]
           move t (1 ∷ []) $ split t $ move t (1 ∷ []) $ facts t S (Is S) (shows 𝓤 H A S) r (w ∷ []) (λ is.
-          use1 W (later (raw (deads 𝓤 H A (c .lifetimes) κs))) (over 𝓤 H A W (c .lifetimes) νs) $ await t z $ move t (0 ∷ 2 ∷ 1 ∷ []) $
-          use3 W (later (raw (⋆ 𝓤 H A left))) (back-all κs 𝓤 H A W (c .passes) h δs ws) $ await t z $ cut (raw (⋆ 𝓤 H A left) ∷ []) left Γ (id⊢ 𝓤 _) $
+          use1 W (later (raw (deads 𝓤 H A (c .lifetimes) κs))) (over 𝓤 H A W (c .lifetimes) νs) $ await t z $
+          move t (0 ∷ 2 ∷ 1 ∷ []) $
+          use3 W (later (raw (⋆ 𝓤 H A left))) (back-all κs 𝓤 H A W (c .passes) h δs ws) $ await t z $
+          cut (raw (⋆ 𝓤 H A left) ∷ []) left Γ (id⊢ 𝓤 _) $
           (let same : w ∷ [] ≡ c .by-value .word r ∷ [] = c .by-value .told r (w ∷ []) is in
           subst (λ (v : Val). Seq K W (left ++ Γ) (G v)) (sym (ap only same)) (k r es said (subst (Is S r) same is)))))))
 
   module _ {K : Type 0} {W : Given 𝓤 H A} {Γ : List (Item 𝓤)} where
     -- up to the call: the lifetimes are made and the slices lent, and what the callee asks stands at the head beside what the caller keeps
-    ready : K → (c : RelationalCallee 𝓤 H A) (h : Handed (c .passes)) → Fit (c .passes) h → c .asks h → (G : Goal 𝓤 H) → Soaks G
+    ready : K → (c : RelationalCallee 𝓤 H A) (h : Handed (c .passes)) → Fit (c .passes) h → c .asks h
+        → (G : Goal 𝓤 H) → Soaks G
         → Γ ≡ held (c .passes) h ++ beyond (slices (c .passes)) Γ
-        → ((νs : News (c .lifetimes)) (δs : Names (c .passes)) → Seq K W (Pre c h νs δs ∷ beyond (slices (c .passes)) Γ) G) → Seq K W Γ G
+        → ((νs : News (c .lifetimes)) (δs : Names (c .passes)) → Seq K W (Pre c h νs δs ∷ beyond (slices (c .passes)) Γ) G)
+        → Seq K W Γ G
     ready t c h fit ask G z e k =
         let n = c .lifetimes in let ps = c .passes in let Γ′ = beyond (slices ps) Γ in
         subst (λ (Δ : List (Item 𝓤)). Seq K W Δ G) (sym e)
-        (use0 W (later (some (λ (νs : News n). raw (toks 𝓤 A n (spans n νs) (fulls n))))) (begun 𝓤 H A W n) $ await t z $ pick t (λ νs.
+        (use0 W (later (some (λ (νs : News n). raw (toks 𝓤 A n (spans n νs) (fulls n))))) (begun 𝓤 H A W n) $
+        await t z $ pick t (λ νs.
         let κs = spans n νs in let live-toks = toks 𝓤 A n κs (fulls n) in
-        cut (raw live-toks ∷ held ps h) (raw live-toks ∷ out 𝓤 H A W (Names ps) (owned-by κs ps h) (kept-back κs ps h) ∷ []) Γ′
-        (via 𝓤 (sep 𝓤 live-toks (⋆ 𝓤 H A (held ps h))) (pop 𝓤 H A (raw live-toks) (held ps h)) (monoR 𝓤 live-toks (lend-all κs 𝓤 H A W ps h fit))) $
+        cut (raw live-toks ∷ held ps h) (raw live-toks ∷ out 𝓤 H A W (Names ps) (owned-by κs ps h)
+        (kept-back κs ps h) ∷ []) Γ′
+        (via 𝓤 (sep 𝓤 live-toks (⋆ 𝓤 H A (held ps h))) (pop 𝓤 H A (raw live-toks) (held ps h))
+        (monoR 𝓤 live-toks (lend-all κs 𝓤 H A W ps h fit))) $
         move t (1 ∷ []) $ await t z $ pick t (λ δs. let R = c .clauses κs (args κs ps h δs) .requires (c .ghost-at κs h δs) in
         split t $ use0 W (raw R) (c .enters κs h δs ask) $ move t (3 ∷ 1 ∷ 0 ∷ []) $
-        use3 W (raw (contract-related c .pre (bound c h νs δs))) (assoc′ 𝓤 live-toks (sem 𝓤 H A (owned-by κs ps h δs)) R) $ join t $ k νs δs)))
+        use3 W (raw (contract-related c .pre (bound c h νs δs))) (assoc′ 𝓤 live-toks (sem 𝓤 H A (owned-by κs ps h δs)) R) $
+        join t $ k νs δs)))
 
   module _ (W : Given 𝓤 H A) (C : Calls 𝓤 H) (f : Name) where
     -- the callee's triple, beside what the caller keeps
@@ -473,7 +540,8 @@ module _ {M : Type 1} {𝓤 : URA M} {H : Heap 𝓤} {A : Atoms 𝓤} where
         → ent 𝓤 (mean 𝓤 H A (Pre c h νs δs)) (C f (in-words (c .passes) h) (Post-of c h νs δs))
     meets fm c known h νs δs =
         let x = bound c h νs δs in let S = sem 𝓤 H A (stay c h νs δs) in
-        subst (λ (vs : List Val). ent 𝓤 (mean 𝓤 H A (Pre c h νs δs)) (C f vs (Post-of c h νs δs))) (in-words-is (at-lfts c h νs δs) (c .passes) h)
+        subst (λ (vs : List Val). ent 𝓤 (mean 𝓤 H A (Pre c h νs δs)) (C f vs (Post-of c h νs δs)))
+        (in-words-is (at-lfts c h νs δs) (c .passes) h)
         (via 𝓤 (sep 𝓤 (C f (contract-related c .args x) (contract-related c .post x)) S) (monoL 𝓤 S (known x))
         (fm f (contract-related c .args x) (contract-related c .post x) (Post-of c h νs δs) S (λ w. id⊢ 𝓤 _)))
 
@@ -489,17 +557,22 @@ module _ {M : Type 1} {𝓤 : URA M} {H : Heap 𝓤} {A : Atoms 𝓤} where
     after-call = held (c .passes) (after (c .passes) h (c .leaves h))
 
     -- the result is the answer, and the lists are those that it leaves
-    at-exact : (X : List (Item 𝓤) → Val → Type 1) → (Is (c .result) (c .answer h) (back ∷ []) → X after-call back) → Then (related c) h X
+    at-exact : (X : List (Item 𝓤) → Val → Type 1) → (Is (c .result) (c .answer h) (back ∷ []) → X after-call back)
+        → Then (related c) h X
     at-exact X k r es e =
         subst (λ (p : c .result .Denot × Ends (c .passes)). Is (c .result) (p .0) (c .by-value .word (p .0) ∷ [])
         → X (held (c .passes) (after (c .passes) h (p .1))) (c .by-value .word (p .0)))
         (λ i. (sym (e .0) i, sym (e .1) i)) k
 
-  module _ {K : Type 0} {W : Given 𝓤 H A} {Γ : List (Item 𝓤)} {E : Env 𝓤 H} {C : Calls 𝓤 H} {Λ : Loops 𝓤 H} {q : Post 𝓤 H} {f : Name} {xs : List Operand} {d : Place} where
-    -- a call: what is handed over, that its values are of their types, what the callee asks, and that the slices' entries stand first (`refl`)
-    pub calls-related : K → FmC 𝓤 H (W .laws) C → {rest : Body} (c : RelationalCallee 𝓤 H A) → Triple 𝓤 (C f) (contract-related c)
+  module _ {K : Type 0} {W : Given 𝓤 H A} {Γ : List (Item 𝓤)} {E : Env 𝓤 H} {C : Calls 𝓤 H} {Λ : Loops 𝓤 H}
+      {q : Post 𝓤 H} {f : Name} {xs : List Operand} {d : Place} where
+    -- a call: what is handed over, that its values are of their types, what the callee asks, and that the slices' entries stand first
+    -- (`refl`)
+    pub calls-related : K → FmC 𝓤 H (W .laws) C → {rest : Body} (c : RelationalCallee 𝓤 H A)
+        → Triple 𝓤 (C f) (contract-related c)
         → (h : Handed (c .passes)) → Fit (c .passes) h → c .asks h
-        → Γ ≡ held (c .passes) h ++ beyond (slices (c .passes)) Γ → Opds K W (gaps (slices (c .passes)) (beyond (slices (c .passes)) Γ)) E xs (in-words (c .passes) h)
+        → Γ ≡ held (c .passes) h ++ beyond (slices (c .passes)) Γ
+        → Opds K W (gaps (slices (c .passes)) (beyond (slices (c .passes)) Γ)) E xs (in-words (c .passes) h)
         → Then c h (λ Δ v. Seq K W (Δ ++ beyond (slices (c .passes)) Γ) (lands C Λ E d v rest q))
         → Seq K W Γ (runs C Λ E (seq (call f xs d) rest) q)
     calls-related t fm {rest} c known h fit ask e os k = let k′ = slices (c .passes) in
@@ -511,7 +584,8 @@ module _ {M : Type 1} {𝓤 : URA M} {H : Heap 𝓤} {A : Atoms 𝓤} where
     -- the same of a call that is the last statement of its part, as of an arm of a branch or of a turn
     pub calls-related-last : K → FmC 𝓤 H (W .laws) C → (c : RelationalCallee 𝓤 H A) → Triple 𝓤 (C f) (contract-related c)
         → (h : Handed (c .passes)) → Fit (c .passes) h → c .asks h
-        → Γ ≡ held (c .passes) h ++ beyond (slices (c .passes)) Γ → Opds K W (gaps (slices (c .passes)) (beyond (slices (c .passes)) Γ)) E xs (in-words (c .passes) h)
+        → Γ ≡ held (c .passes) h ++ beyond (slices (c .passes)) Γ
+        → Opds K W (gaps (slices (c .passes)) (beyond (slices (c .passes)) Γ)) E xs (in-words (c .passes) h)
         → Then c h (λ Δ v. Seq K W (Δ ++ beyond (slices (c .passes)) Γ) (settles E d v q))
         → Seq K W Γ (runs C Λ E (call f xs d) q)
     calls-related-last t fm c known h fit ask e os k = let k′ = slices (c .passes) in
@@ -521,16 +595,24 @@ module _ {M : Type 1} {𝓤 : URA M} {H : Heap 𝓤} {A : Atoms 𝓤} where
         (λ w. returned c h W (beyond k′ Γ) ask t νs δs w (λ v. settles E d v q) tt k))
 
     -- both of a callee that says its result and its last lists exactly
-    pub calls : K → FmC 𝓤 H (W .laws) C → {rest : Body} (c : Callee 𝓤 H A) → Triple 𝓤 (C f) (contractOf c) → (h : Handed (c .passes)) → Fit (c .passes) h → c .asks h
-        → Γ ≡ before-call c h ++ beyond (slices (c .passes)) Γ → Opds K W (gaps (slices (c .passes)) (beyond (slices (c .passes)) Γ)) E xs (in-words (c .passes) h)
-        → (Is (c .result) (c .answer h) (back c h ∷ []) → Seq K W (after-call c h ++ beyond (slices (c .passes)) Γ) (lands C Λ E d (back c h) rest q))
+    pub calls : K → FmC 𝓤 H (W .laws) C → {rest : Body} (c : Callee 𝓤 H A) → Triple 𝓤 (C f) (contractOf c)
+        → (h : Handed (c .passes)) → Fit (c .passes) h → c .asks h
+        → Γ ≡ before-call c h ++ beyond (slices (c .passes)) Γ → Opds K W
+        (gaps (slices (c .passes)) (beyond (slices (c .passes)) Γ)) E xs (in-words (c .passes) h)
+        → (Is (c .result) (c .answer h) (back c h ∷ []) → Seq K W (after-call c h ++ beyond (slices (c .passes)) Γ)
+        (lands C Λ E d (back c h) rest q))
         → Seq K W Γ (runs C Λ E (seq (call f xs d) rest) q)
     calls t fm {rest} c known h fit ask e os k =
-        calls-related t fm (related c) known h fit ask e os (at-exact c h (λ Δ v. Seq K W (Δ ++ beyond (slices (c .passes)) Γ) (lands C Λ E d v rest q)) k)
+        calls-related t fm (related c) known h fit ask e os (at-exact c h
+        (λ Δ v. Seq K W (Δ ++ beyond (slices (c .passes)) Γ) (lands C Λ E d v rest q)) k)
 
-    pub calls-last : K → FmC 𝓤 H (W .laws) C → (c : Callee 𝓤 H A) → Triple 𝓤 (C f) (contractOf c) → (h : Handed (c .passes)) → Fit (c .passes) h → c .asks h
-        → Γ ≡ before-call c h ++ beyond (slices (c .passes)) Γ → Opds K W (gaps (slices (c .passes)) (beyond (slices (c .passes)) Γ)) E xs (in-words (c .passes) h)
-        → (Is (c .result) (c .answer h) (back c h ∷ []) → Seq K W (after-call c h ++ beyond (slices (c .passes)) Γ) (settles E d (back c h) q))
+    pub calls-last : K → FmC 𝓤 H (W .laws) C → (c : Callee 𝓤 H A) → Triple 𝓤 (C f) (contractOf c)
+        → (h : Handed (c .passes)) → Fit (c .passes) h → c .asks h
+        → Γ ≡ before-call c h ++ beyond (slices (c .passes)) Γ → Opds K W
+        (gaps (slices (c .passes)) (beyond (slices (c .passes)) Γ)) E xs (in-words (c .passes) h)
+        → (Is (c .result) (c .answer h) (back c h ∷ []) → Seq K W (after-call c h ++ beyond (slices (c .passes)) Γ)
+        (settles E d (back c h) q))
         → Seq K W Γ (runs C Λ E (call f xs d) q)
     calls-last t fm c known h fit ask e os k =
-        calls-related-last t fm (related c) known h fit ask e os (at-exact c h (λ Δ v. Seq K W (Δ ++ beyond (slices (c .passes)) Γ) (settles E d v q)) k)
+        calls-related-last t fm (related c) known h fit ask e os (at-exact c h
+        (λ Δ v. Seq K W (Δ ++ beyond (slices (c .passes)) Γ) (settles E d v q)) k)

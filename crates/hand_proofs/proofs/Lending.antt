@@ -1,8 +1,10 @@
 -- A slice that a function holds: opened in its own walk, or lent for one call and had back.
---     Holds, Views                 a `&mut [T]`, and a `&[T]`, with its token, as one formula: a walk has one entry of the context for each slice
+--     Holds, Views                 a `&mut [T]`, and a `&[T]`, with its token, as one formula: a walk has one entry of the context for each
+--                                  slice
 --     opens, closes                a `&mut [T]` opened in the function's own walk, and closed at a list of the same length
 --     looks, shuts                 a `&[T]` looked into, and shut
---     lend, regain                 a `&mut [T]` lent as a `&mut [T]` for κ′; once κ′ is over, had back at the list that the callee left
+--     lend, regain                 a `&mut [T]` lent as a `&mut [T]` for κ′; once κ′ is over, had back at the list that the callee
+--                                  left
 --     show, regain-shown           a `&mut [T]` lent as a `&[T]` for κ′; once κ′ is over, had back as it was
 --     relay, regain-relayed        a `&[T]` lent on as a `&[T]`, likewise
 -- It says nothing of any crate. Assumes `Given`.
@@ -18,9 +20,8 @@ use base.Logic.{SProp, ent, sep, ex}
 use base.Fml.{Lft, GName, Share, Fml, fsep, fex, feq, flft, fdead, fobs, fauth, fres, flent, fobor, fshr-bor}
 use prog.Wp.{Heap}
 use ghost.Atoms.{Atoms, sem}
-use types.Kit.{Given, Item, Goal, Soaks, Seq, Step, step, ‵, _⊛_, some, later, _$_, _∵_, !, qed, move, use1, use3, rewrite, split, pick, fsplit, fjoin, fpick, fpack, feqL, feqI}
-use types.Kit.{frame, await, updating}
-use types.Kit.{now as at-once, show as witness, done}
+use types.Kit.{Given, Item, Goal, Soaks, Seq, Step, step, ‵, _⊛_, some, later, _$_, _∵_, !, qed, move, use1, use3, rewrite, split}
+use types.Kit.{pick, fsplit, fjoin, fpick, fpack, feqL, feqI, frame, await, updating, now as at-once, show as witness, done}
 use types.Tokens.{lent-back}
 use types.SemTy.{cells, Arr}
 use types.Share.{arr-parts}
@@ -90,19 +91,23 @@ module _ (R : RattleType) (L : Loan) where
   abbrev pub Fits : List (R .Denot) → Type 0
   Fits ys = (words ≡ sliceVal (L .block, L .byte) (length ys) ∷ []) × Room R (length ys)
 
-  module _ {M : Type 1} {𝓤 : URA M} {H : Heap 𝓤} {A : Atoms 𝓤} {K : Type 0} {W : Given 𝓤 H A} {Γ : List (Item 𝓤)} {G : Goal 𝓤 H} where
+  module _ {M : Type 1} {𝓤 : URA M} {H : Heap 𝓤} {A : Atoms 𝓤} {K : Type 0} {W : Given 𝓤 H A} {Γ : List (Item 𝓤)}
+      {G : Goal 𝓤 H} where
     -- a `&mut [T]` is opened, and closed at a list of the same length: [the row of its elements; the open borrow; both halves of its name]
     pub opens : K → Soaks G → (ys : List (R .Denot))
-        → (Fits ys → Seq K W (‵ (row R fullShare ys (L .block) (L .byte)) ∷ ‵ (fobor (L .during) (L .portion) (Held R (length ys) (L .block) (L .byte) (L .tag)))
+        → (Fits ys → Seq K W (‵ (row R fullShare ys (L .block) (L .byte)) ∷
+        ‵ (fobor (L .during) (L .portion) (Held R (length ys) (L .block) (L .byte) (L .tag)))
         ∷ ‵ (fobs (L .tag) (codedHoleys R .code (heres R ys))) ∷ ‵ (fauth (L .tag) (codedHoleys R .code (heres R ys))) ∷ Γ) G)
         → Seq K W (‵ (Holds ys) ∷ Γ) G
     opens t z ys k = fsplit t $ fsplit t $ pureL t (Lies ys) (λ p. fsplit t $ opens-slice t z R ys (L .block) (L .byte) $ k p)
 
     pub closes : K → Soaks G → (ys zs : List (R .Denot)) → length zs ≡ length ys → Fits ys
-        → Step K W (‵ (Holds zs) ∷ Γ) G (‵ (row R fullShare zs (L .block) (L .byte)) ∷ ‵ (fobor (L .during) (L .portion) (Held R (length ys) (L .block) (L .byte) (L .tag)))
+        → Step K W (‵ (Holds zs) ∷ Γ) G (‵ (row R fullShare zs (L .block) (L .byte)) ∷
+        ‵ (fobor (L .during) (L .portion) (Held R (length ys) (L .block) (L .byte) (L .tag)))
         ∷ ‵ (fobs (L .tag) (codedHoleys R .code (heres R ys))) ∷ ‵ (fauth (L .tag) (codedHoleys R .code (heres R ys))) ∷ Γ) G
     closes t z ys zs e p = step (λ s. closes-slice t z R ys zs e (L .block) (L .byte) $ fjoin t $
-        pureI t (Lies zs) (tt, (tt, tt)) (subst (λ (m : ℕ). (words ≡ sliceVal (L .block, L .byte) m ∷ []) × Room R m) (sym e) p) $ fjoin t $ fjoin t $ s)
+        pureI t (Lies zs) (tt, (tt, tt)) (subst (λ (m : ℕ). (words ≡ sliceVal (L .block, L .byte) m ∷ []) × Room R m) (sym e) p) $
+        fjoin t $ fjoin t $ s)
 
     -- a `&[T]` is looked into, and shut: [a share of the row; the open borrow; the borrow itself; its name]
     pub looks : K → Soaks G → (vals : R .Denot → List Val) → Tells R (Is R) vals → Copy 𝓤 H A R → (ys : List (R .Denot))
@@ -115,9 +120,11 @@ module _ (R : RattleType) (L : Loan) where
     pub shuts : K → Soaks G → (s : Share) (ys : List (R .Denot)) → Fits ys
         → Step K W (‵ (Views ys) ∷ Γ) G (‵ (row R s ys (L .block) (L .byte)) ∷ ‵ (fobor (L .during) (L .portion) (Part ys s))
         ∷ ‵ (fshr-bor (L .during) (Part ys)) ∷ ‵ (fres (L .tag) (codedHoleys R .code (heres R ys))) ∷ Γ) G
-    shuts t z s ys p = step (λ r. shuts-slice t z R s ys (L .block) (L .byte) $ move t (2 ∷ 1 ∷ []) $ fjoin t $ pureI t (Lies ys) (tt, (tt, tt)) p $ fjoin t $ fjoin t $ r)
+    shuts t z s ys p = step (λ r. shuts-slice t z R s ys (L .block) (L .byte) $ move t (2 ∷ 1 ∷ []) $ fjoin t $
+        pureI t (Lies ys) (tt, (tt, tt)) p $ fjoin t $ fjoin t $ r)
 
-  module _ {M : Type 1} (𝓤 : URA M) (H : Heap 𝓤) (A : Atoms 𝓤) (W : Given 𝓤 H A) (ℓ′ : Lifetime) (κ′ : Lft) (ys : List (R .Denot)) where
+  module _ {M : Type 1} (𝓤 : URA M) (H : Heap 𝓤) (A : Atoms 𝓤) (W : Given 𝓤 H A) (ℓ′ : Lifetime) (κ′ : Lft)
+      (ys : List (R .Denot)) where
     abbrev b : ℕ
     b = L .block
 
@@ -136,8 +143,10 @@ module _ (R : RattleType) (L : Loan) where
 
     pub lend : ent 𝓤 (sem 𝓤 H A (Holds ys)) (H .⇛ (ex 𝓤 LentTo))
     lend =
-        qed W (‵ (Holds ys) ∷ []) ∵ updating ! $ opens ! tt ys (λ p. use1 W (‵ (cells (mem R) ys b o)) (whole-in 𝓤 H A W R ys b o) $
-        use1 W (later (some (λ (δ : GName). ‵ (MutSlice ℓ′ κ′ R .own (at-list δ ys) (sliceVal (b, o) (length ys) ∷ [])) ⊛ ‵ (flent κ′ (Held R (length ys) b o δ)))))
+        qed W (‵ (Holds ys) ∷ []) ∵ updating ! $ opens ! tt ys (λ p. use1 W (‵ (cells (mem R) ys b o))
+        (whole-in 𝓤 H A W R ys b o) $
+        use1 W (later (some (λ (δ : GName). ‵ (MutSlice ℓ′ κ′ R .own (at-list δ ys) (sliceVal (b, o) (length ys) ∷ [])) ⊛
+        ‵ (flent κ′ (Held R (length ys) b o δ)))))
         (lends-slice 𝓤 H A W R ℓ′ κ′ ys b o (p .1)) $ await ! tt $
         pick ! (λ δ. split ! $ rewrite ! 0 (λ (vs : List Val). ‵ (MutSlice ℓ′ κ′ R .own (at-list δ ys) vs)) (sym (p .0)) refl $
         -- [the slice lent; the lender's part; the open borrow; both halves of its name]
@@ -146,18 +155,23 @@ module _ (R : RattleType) (L : Loan) where
 
     -- what a callee's contract says of the last list zs: that it is the last, and that it is as long
     pub regain : (δ : GName) (zs : List (R .Denot))
-        → ent 𝓤 (sep 𝓤 (A .dead κ′) (sep 𝓤 (sem 𝓤 H A (Away κ′ δ ys)) (sem 𝓤 H A (fsep (finally R δ zs) (feq ℕ (length zs) (length ys)))))) (H .⇛ (sem 𝓤 H A (Holds zs)))
+        → ent 𝓤 (sep 𝓤 (A .dead κ′) (sep 𝓤 (sem 𝓤 H A (Away κ′ δ ys))
+        (sem 𝓤 H A (fsep (finally R δ zs) (feq ℕ (length zs) (length ys)))))) (H .⇛ (sem 𝓤 H A (Holds zs)))
     regain δ zs =
-        qed W (‵ (fdead κ′) ∷ ‵ (Away κ′ δ ys) ∷ ‵ (fsep (finally R δ zs) (feq ℕ (length zs) (length ys))) ∷ []) ∵ updating ! $
+        qed W (‵ (fdead κ′) ∷ ‵ (Away κ′ δ ys) ∷ ‵ (fsep (finally R δ zs) (feq ℕ (length zs) (length ys))) ∷ []) ∵
+        updating ! $
         move ! (2 ∷ []) $ fsplit ! $ move ! (1 ∷ []) $ feqL ! (λ e. move ! (2 ∷ []) $ fsplit ! $ move ! (3 ∷ 0 ∷ 2 ∷ []) $
-        use3 W (later (‵ (Arr (mem R) (length ys) .lies zs b o))) (slice-back 𝓤 H A W R κ′ δ zs (length ys) b o) $ await ! tt $ fsplit ! $ feqL ! (λ _.
-        use1 W (‵ (row R fullShare zs b o)) (whole-out 𝓤 H A W R zs b o) $ move ! (1 ∷ []) $ fsplit ! $ pureL ! (Lies ys) (λ p. fsplit ! $ move ! (1 ∷ []) $ fsplit ! $
+        use3 W (later (‵ (Arr (mem R) (length ys) .lies zs b o))) (slice-back 𝓤 H A W R κ′ δ zs (length ys) b o) $ await ! tt $
+        fsplit ! $ feqL ! (λ _.
+        use1 W (‵ (row R fullShare zs b o)) (whole-out 𝓤 H A W R zs b o) $ move ! (1 ∷ []) $ fsplit ! $
+        pureL ! (Lies ys) (λ p. fsplit ! $ move ! (1 ∷ []) $ fsplit ! $
         move ! (3 ∷ 2 ∷ 0 ∷ 1 ∷ []) $ closes ! tt ys zs e p $ at-once ! $ done !)))
 
     pub show : ent 𝓤 (sem 𝓤 H A (Holds ys)) (H .⇛ (ex 𝓤 ShownTo))
     show =
         qed W (‵ (Holds ys) ∷ []) ∵ updating ! $ opens ! tt ys (λ p. feqI ! ℕ (length ys) (length ys) refl $ fjoin ! $
-        use1 W (later (some (λ (δ : GName). ‵ (ShrSlice ℓ′ κ′ R .own (at-list δ ys) (sliceVal (b, o) (length ys) ∷ [])) ⊛ ‵ (flent κ′ (Part ys fullShare)))))
+        use1 W (later (some (λ (δ : GName). ‵ (ShrSlice ℓ′ κ′ R .own (at-list δ ys) (sliceVal (b, o) (length ys) ∷ [])) ⊛
+        ‵ (flent κ′ (Part ys fullShare)))))
         (lends-shr-slice 𝓤 H A W R ℓ′ κ′ fullShare ys b o (p .1)) $ await ! tt $
         pick ! (λ δ. split ! $ rewrite ! 0 (λ (vs : List Val). ‵ (ShrSlice ℓ′ κ′ R .own (at-list δ ys) vs)) (sym (p .0)) refl $
         at-once ! $ witness ! ShownTo δ $ frame ! $ move ! (2 ∷ 3 ∷ []) $ fjoin ! $ move ! (2 ∷ 0 ∷ []) $ fjoin ! $
@@ -165,20 +179,28 @@ module _ (R : RattleType) (L : Loan) where
 
     pub regain-shown : ent 𝓤 (sep 𝓤 (A .dead κ′) (sem 𝓤 H A (Seen κ′ ys))) (H .⇛ (sem 𝓤 H A (Holds ys)))
     regain-shown =
-        qed W (‵ (fdead κ′) ∷ ‵ (Seen κ′ ys) ∷ []) ∵ updating ! $ move ! (1 ∷ []) $ fsplit ! $ move ! (2 ∷ 0 ∷ []) $ lent-back ! tt $ fsplit ! $ feqL ! (λ _.
-        move ! (1 ∷ []) $ fsplit ! $ pureL ! (Lies ys) (λ p. fsplit ! $ move ! (1 ∷ []) $ fsplit ! $ move ! (3 ∷ 2 ∷ 0 ∷ 1 ∷ []) $ closes ! tt ys ys refl p $ at-once ! $ done !))
+        qed W (‵ (fdead κ′) ∷ ‵ (Seen κ′ ys) ∷ []) ∵ updating ! $ move ! (1 ∷ []) $ fsplit ! $ move ! (2 ∷ 0 ∷ []) $
+        lent-back ! tt $ fsplit ! $ feqL ! (λ _.
+        move ! (1 ∷ []) $ fsplit ! $ pureL ! (Lies ys) (λ p. fsplit ! $ move ! (1 ∷ []) $ fsplit ! $
+        move ! (3 ∷ 2 ∷ 0 ∷ 1 ∷ []) $ closes ! tt ys ys refl p $ at-once ! $ done !))
 
-    pub relay : (vals : R .Denot → List Val) → Tells R (Is R) vals → Copy 𝓤 H A R → ent 𝓤 (sem 𝓤 H A (Views ys)) (H .⇛ (ex 𝓤 RelayedTo))
+    pub relay : (vals : R .Denot → List Val) → Tells R (Is R) vals → Copy 𝓤 H A R
+        → ent 𝓤 (sem 𝓤 H A (Views ys)) (H .⇛ (ex 𝓤 RelayedTo))
     relay vals tells copied =
-        qed W (‵ (Views ys) ∷ []) ∵ updating ! $ looks ! tt vals tells copied ys (λ s p. feqI ! ℕ (length ys) (length ys) refl $ fjoin ! $
-        use1 W (later (some (λ (δ : GName). ‵ (ShrSlice ℓ′ κ′ R .own (at-list δ ys) (sliceVal (b, o) (length ys) ∷ [])) ⊛ ‵ (flent κ′ (Part ys s)))))
+        qed W (‵ (Views ys) ∷ []) ∵ updating ! $ looks ! tt vals tells copied ys
+        (λ s p. feqI ! ℕ (length ys) (length ys) refl $ fjoin ! $
+        use1 W (later (some (λ (δ : GName). ‵ (ShrSlice ℓ′ κ′ R .own (at-list δ ys) (sliceVal (b, o) (length ys) ∷ [])) ⊛
+        ‵ (flent κ′ (Part ys s)))))
         (lends-shr-slice 𝓤 H A W R ℓ′ κ′ s ys b o (p .1)) $ await ! tt $
         pick ! (λ δ. split ! $ rewrite ! 0 (λ (vs : List Val). ‵ (ShrSlice ℓ′ κ′ R .own (at-list δ ys) vs)) (sym (p .0)) refl $
         -- [the slice lent; the lender's part; the open borrow; the borrow itself; its name]
-        at-once ! $ witness ! RelayedTo δ $ frame ! $ fjoin ! $ fpack ! Share (λ s′. fsep (flent κ′ (Part ys s′)) (fobor (L .during) (L .portion) (Part ys s′))) s $
+        at-once ! $ witness ! RelayedTo δ $ frame ! $ fjoin ! $ fpack ! Share
+        (λ s′. fsep (flent κ′ (Part ys s′)) (fobor (L .during) (L .portion) (Part ys s′))) s $
         move ! (1 ∷ 0 ∷ []) $ fjoin ! $ move ! (1 ∷ 0 ∷ []) $ fjoin ! $ pureI ! (Lies ys) (tt, (tt, tt)) p $ fjoin ! $ done !))
 
     pub regain-relayed : ent 𝓤 (sep 𝓤 (A .dead κ′) (sem 𝓤 H A (Relayed κ′ ys))) (H .⇛ (sem 𝓤 H A (Views ys)))
     regain-relayed =
-        qed W (‵ (fdead κ′) ∷ ‵ (Relayed κ′ ys) ∷ []) ∵ updating ! $ move ! (1 ∷ []) $ fsplit ! $ pureL ! (Lies ys) (λ p. fsplit ! $ move ! (1 ∷ []) $ fsplit ! $
-        move ! (1 ∷ []) $ fpick ! (λ s. fsplit ! $ move ! (4 ∷ 0 ∷ []) $ lent-back ! tt $ fsplit ! $ feqL ! (λ _. shuts ! tt s ys p $ at-once ! $ done !)))
+        qed W (‵ (fdead κ′) ∷ ‵ (Relayed κ′ ys) ∷ []) ∵ updating ! $ move ! (1 ∷ []) $ fsplit ! $
+        pureL ! (Lies ys) (λ p. fsplit ! $ move ! (1 ∷ []) $ fsplit ! $
+        move ! (1 ∷ []) $ fpick ! (λ s. fsplit ! $ move ! (4 ∷ 0 ∷ []) $ lent-back ! tt $ fsplit ! $
+        feqL ! (λ _. shuts ! tt s ys p $ at-once ! $ done !)))

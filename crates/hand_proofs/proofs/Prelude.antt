@@ -23,8 +23,8 @@ pub use contract.Monad.{Fun, factI}
 pub use contract.Running.{givenOf}
 unfoldable pub use contract.Running.{tablesOf}
 pub use types.Kit.{Given, Item, Sq, runs, atRet, anyQ, ‵, _$_, !, move, drop, rewrite, check, done}
-pub use types.Run.{look, init, store, look-raw, store-raw, forget, stop, hop, fld, from, addr, load, lit, unit-lit, of-opd, no-more, bin, assigns-last, first, blocks, exec}
-pub use types.Run.{again, loops, returns, returns-within}
+pub use types.Run.{look, init, store, look-raw, store-raw, forget, stop, hop, fld, from, addr, load, lit, unit-lit, of-opd, no-more, bin}
+pub use types.Run.{assigns-last, first, blocks, exec, again, loops, returns, returns-within}
 pub use types.Part.{whole, sub, look-in, store-in, agg}
 pub use denote.Laws.{Is}
 pub use denote.Builtin.{u8, u16, usize}
@@ -33,11 +33,13 @@ pub use denote.Triple.Statement.{Triple}
 pub use denote.Triple.Table.{cited}
 pub use Rattle.hand_proofs.proofs.Values.{stored, copied, by-uint, by-array}
 pub use Rattle.hand_proofs.proofs.Lending.{Loan, slice, Holds, Views, opens, closes, looks, shuts}
-pub use Rattle.hand_proofs.proofs.Calling.{Handed, Fit, contractOf, calls, calls-last, contract-related, calls-related, calls-related-last}
-pub use Rattle.hand_proofs.proofs.Proving.{Duty, Rooms, suited, Goes, starts, duty, Done-at, hold, Suffices, own-tables, proved-own, proved-duty}
-pub use Rattle.hand_proofs.proofs.Proving.{RelationalDuty, Goes-related, starts-related, duty-related, Done-related, concludes}
-pub use Rattle.hand_proofs.proofs.Proving.{proved-own-related}
-pub use Rattle.hand_proofs.proofs.Locals.{var, ptr-of, len-of, base-of, slice-of, big-lit, _&_, equals, sets, sets-last, into, into-last}
+pub use Rattle.hand_proofs.proofs.Calling.{Handed, Fit, contractOf, calls, calls-last, contract-related, calls-related}
+pub use Rattle.hand_proofs.proofs.Calling.{calls-related-last}
+pub use Rattle.hand_proofs.proofs.Proving.{Duty, Rooms, suited, Goes, starts, duty, Done-at, hold, Suffices, own-tables}
+pub use Rattle.hand_proofs.proofs.Proving.{proved-own, proved-duty, RelationalDuty, Goes-related, starts-related, duty-related}
+pub use Rattle.hand_proofs.proofs.Proving.{Done-related, concludes, proved-own-related}
+pub use Rattle.hand_proofs.proofs.Locals.{var, ptr-of, len-of, base-of, slice-of, big-lit, _&_, equals, sets, sets-last, into}
+pub use Rattle.hand_proofs.proofs.Locals.{into-last}
 pub use Rattle.hand_proofs.proofs.Walks.{Holding, empty, holds, full, envAt, stack, Blocks, leaves}
 pub use Rattle.hand_proofs.proofs.Branches.{if-then, while-test, Turned}
 pub use Rattle.hand_proofs.proofs.Arrays.{repeated, repeats, array-loan, lends-array, array-back}

@@ -21,7 +21,8 @@ use denote.Enum.Laws as EL
 use denote.Exit.{Kept, unchanged, each-of}
 use denote.Laws.{Is, Tells, Typed, Lawful, Makes, Copy, shows}
 use denote.Lowered.{Lowered}
-use denote.Plain.{UInt, Boolean, Nothing, uint-tells, uint-lawful, uint-makes, bool-tells, bool-lawful, bool-makes, nothing-tells, nothing-lawful, nothing-makes}
+use denote.Plain.{UInt, Boolean, Nothing, uint-tells, uint-lawful, uint-makes, bool-tells, bool-lawful, bool-makes, nothing-tells}
+use denote.Plain.{nothing-lawful, nothing-makes}
 use denote.RattleType.{RattleType}
 use denote.Struct.Declared.{Declared, fields, row}
 use denote.Struct.Laws as LL
@@ -35,27 +36,54 @@ pub record ByValue (R : RattleType) : Type 2 where
   pub still : (k : Kept) → R .exit k ≡ unchanged
 
 -- so it can be had twice
-pub copied : (R : RattleType) → ByValue R → {M : Type 1} (𝓤 : URA M) (H : Heap 𝓤) (A : Atoms 𝓤) → Given 𝓤 H A → Copy 𝓤 H A R
+pub copied : (R : RattleType) → ByValue R → {M : Type 1} (𝓤 : URA M) (H : Heap 𝓤) (A : Atoms 𝓤)
+    → Given 𝓤 H A → Copy 𝓤 H A R
 copied R B 𝓤 H A W = record {
   twice = λ x vs. fact-use 𝓤 (Is R x vs) (shows 𝓤 H A R x vs) (λ is.
-      via 𝓤 (sep 𝓤 (emp 𝓤) (sem 𝓤 H A (R .own x vs))) (emp∗ 𝓤 (sem 𝓤 H A (R .own x vs))) (monoL 𝓤 (sem 𝓤 H A (R .own x vs)) (B .makes 𝓤 H A W x vs is)));
+      via 𝓤 (sep 𝓤 (emp 𝓤) (sem 𝓤 H A (R .own x vs))) (emp∗ 𝓤 (sem 𝓤 H A (R .own x vs)))
+      (monoL 𝓤 (sem 𝓤 H A (R .own x vs)) (B .makes 𝓤 H A W x vs is)));
 }
 
 abbrev pub by-uint : (w : Width) → ByValue (UInt w)
-by-uint w = record { word = vint w; told = uint-tells w; lawful = λ 𝓤 H A W. uint-lawful 𝓤 H A W w; makes = λ 𝓤 H A W. uint-makes 𝓤 H A W w; still = λ k. refl }
+by-uint w = record {
+  word = vint w;
+  told = uint-tells w;
+  lawful = λ 𝓤 H A W. uint-lawful 𝓤 H A W w;
+  makes = λ 𝓤 H A W. uint-makes 𝓤 H A W w;
+  still = λ k. refl;
+}
 
 abbrev pub by-bool : ByValue Boolean
-by-bool = record { word = vbool; told = bool-tells; lawful = λ 𝓤 H A W. bool-lawful 𝓤 H A W; makes = λ 𝓤 H A W. bool-makes 𝓤 H A W; still = λ k. refl }
+by-bool = record {
+  word = vbool;
+  told = bool-tells;
+  lawful = λ 𝓤 H A W. bool-lawful 𝓤 H A W;
+  makes = λ 𝓤 H A W. bool-makes 𝓤 H A W;
+  still = λ k. refl;
+}
 
 abbrev pub by-unit : ByValue Nothing
-by-unit = record { word = λ _. vunit; told = nothing-tells; lawful = λ 𝓤 H A W. nothing-lawful 𝓤 H A W; makes = λ 𝓤 H A W. nothing-makes 𝓤 H A W; still = λ k. refl }
+by-unit = record {
+  word = λ _. vunit;
+  told = nothing-tells;
+  lawful = λ 𝓤 H A W. nothing-lawful 𝓤 H A W;
+  makes = λ 𝓤 H A W. nothing-makes 𝓤 H A W;
+  still = λ k. refl;
+}
 
 -- for the struct's module S, with S′ for `S.Laws`: `by-struct S.the-type S′.the-laws S′.the-plain S′.the-copy S′.lowers`
 abbrev pub by-struct : (T : Declared) (L : LL.Laws T) → Plains (fields T) → LL.Copyables (T .parts) → LL.Lowered T → ByValue (row T)
-by-struct T L pl cs lo = record { word = lo .lowered; told = lo .val-is; lawful = λ 𝓤 H A W. LL.lawful T L 𝓤 H A W; makes = λ 𝓤 H A W. LL.makes T pl 𝓤 H A; still = LL.still T cs }
+by-struct T L pl cs lo = record {
+  word = lo .lowered;
+  told = lo .val-is;
+  lawful = λ 𝓤 H A W. LL.lawful T L 𝓤 H A W;
+  makes = λ 𝓤 H A W. LL.makes T pl 𝓤 H A;
+  still = LL.still T cs;
+}
 
 -- likewise for an enum of at most 256 variants
-abbrev pub by-enum : (T : Enums.Declared) (L : EL.Laws T) → Few (Enums.shape T) → Plainss (Enums.variants T) → EL.Copyabless (T .parts) → Lowered (Enums.row T)
+abbrev pub by-enum : (T : Enums.Declared) (L : EL.Laws T) → Few (Enums.shape T) → Plainss (Enums.variants T)
+    → EL.Copyabless (T .parts) → Lowered (Enums.row T)
     → ByValue (Enums.row T)
 by-enum T L few pl cs lo = record {
   word = lo .lowered;
@@ -75,6 +103,7 @@ by-array T B n = record {
 }
 
 -- its machine value can be stored in a local of its type. For a type of one machine value the evidence is the `.0` of this
-pub stored : {M : Type 1} {𝓤 : URA M} {H : Heap 𝓤} {A : Atoms 𝓤} → Given 𝓤 H A → {R : RattleType} (B : ByValue R) (x : R .Denot) → Is R x (B .word x ∷ [])
+pub stored : {M : Type 1} {𝓤 : URA M} {H : Heap 𝓤} {A : Atoms 𝓤} → Given 𝓤 H A
+    → {R : RattleType} (B : ByValue R) (x : R .Denot) → Is R x (B .word x ∷ [])
     → Typed (R .mir) (B .word x ∷ [])
 stored {𝓤 = 𝓤} {H = H} {A = A} W B x is = B .lawful 𝓤 H A W .typed x (B .word x ∷ []) is

@@ -63,7 +63,8 @@ module _ {M : Type 1} (𝓤 : URA M) (H : Heap 𝓤) (A : Atoms 𝓤) where
 
   abbrev pub next-hop-callee : Callee 𝓤 H A
   next-hop-callee =
-      stating 𝓤 H A 1 (value O by-outgoing ∷ lent 0 tt Grid ∷ []) R by-hop result-and-list (λ d. nextHop (withPairs (d .1 .0) (d .0)))
+      stating 𝓤 H A 1 (value O by-outgoing ∷ lent 0 tt Grid ∷ []) R by-hop result-and-list
+      (λ d. nextHop (withPairs (d .1 .0) (d .0)))
       (λ d. (afterNext (withPairs (d .1 .0) (d .0)) .pairs, tt))
 
   abbrev pub after-callee : Callee 𝓤 H A

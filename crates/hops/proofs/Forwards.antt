@@ -69,7 +69,8 @@ module _ {start : Forwarding} {hs : List Hop} where
 module _ {start : Forwarding} {hs : List Hop} where
   pub lent-turned : (k : ℕ) (o : Outgoing) (cs : List (List (List ℕ))) (zs : List Hop) → o .children < 2 ^ 32
       → T (isLeft (withPairs [] o)) → Reaches start hs k (withPairs cs o) zs
-      → (j : ℕ) × Reaches start hs j (withPairs (afterNext (withPairs cs o) .pairs) (withoutPairs (afterNext (withPairs [] o)))) (set zs
+      → (j : ℕ) × Reaches start hs j (withPairs (afterNext (withPairs cs o) .pairs) (withoutPairs (afterNext (withPairs [] o))))
+      (set zs
       (o .made) (nextHop (withPairs cs o)))
   unfolding withPairs withoutPairs isLeft afterNext
   lent-turned k o cs zs fits left r = turned k (withPairs cs o) zs fits left r

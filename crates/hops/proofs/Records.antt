@@ -85,7 +85,8 @@ hop-past hs j over = sym (List·getD-eq-default hs noHop over)
 pub place-fits : (n j : ℕ) → Room R n → j < n → j * 8 < 2 ^ 64
 place-fits n j room within = omega (arith, within, room .1)
 
-module _ {M : Type 1} {𝓤 : URA M} {H : Heap 𝓤} {A : Atoms 𝓤} {K : Type 0} {W : Given 𝓤 H A} {Γ : List (Item 𝓤)} {G : Goal 𝓤 H} where
+module _ {M : Type 1} {𝓤 : URA M} {H : Heap 𝓤} {A : Atoms 𝓤} {K : Type 0} {W : Given 𝓤 H A} {Γ : List (Item 𝓤)}
+    {G : Goal 𝓤 H} where
   pub out : K → (q : Share) (hs : List Hop) (i : ℕ) (b o : ℕ) → i < length hs
       → (Low (getD hs i noHop) → Seq K W (‵ (fat q (rawTy T′.mir) b (place 8 o i) (low (getD hs i noHop)))
       ∷ ‵ (R .own (getD hs i noHop) (low (getD hs i noHop) ∷ []))
@@ -95,7 +96,8 @@ module _ {M : Type 1} {𝓤 : URA M} {H : Heap 𝓤} {A : Atoms 𝓤} {K : Type 
 
   pub back-in : K → (q : Share) (hs : List Hop) (i : ℕ) (b o : ℕ) → i < length hs
       → Step K W (‵ (row R q hs b o) ∷ Γ) G
-      (‵ (fat q (rawTy T′.mir) b (place 8 o i) (low (getD hs i noHop))) ∷ ‵ (R .own (getD hs i noHop) (low (getD hs i noHop) ∷ []))
+      (‵ (fat q (rawTy T′.mir) b (place 8 o i) (low (getD hs i noHop))) ∷
+      ‵ (R .own (getD hs i noHop) (low (getD hs i noHop) ∷ []))
       ∷ ‵ (others (shares R) q hs i b o) ∷ Γ) G
   back-in t q hs i b o l = elem-back t R q hs i noHop (low (getD hs i noHop) ∷ []) b o l
 

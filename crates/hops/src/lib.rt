@@ -1,4 +1,4 @@
-// The hops of a bench: a list of records lent by the caller. Every access to a record goes through `read`, `message_at`, `state_at`,
+// The hops of a bench: records in a list that the caller lends. Every access to a record goes through `read`, `message_at`, `state_at`,
 // `set_state`, `append` and `clear`. Every function is total: a place past the list reads as zeros, and nothing is stored there.
 
 mod forwarding;

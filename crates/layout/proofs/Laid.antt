@@ -55,17 +55,20 @@ left-live gs live r i tab m =
           (false-of-not (member (groupsOf gs r) i) (and-right (member live i) (not (member (groupsOf gs r) i)) both)),
     )
 
-pub live-left : (gs : List ℕ) (live r i : ℕ) → member live i ≡ true → (member (getD gs i 0) r ≡ true → ⊥) → member (setAside gs live r) i ≡ true
+pub live-left : (gs : List ℕ) (live r i : ℕ) → member live i ≡ true → (member (getD gs i 0) r ≡ true → ⊥)
+    → member (setAside gs live r) i ≡ true
 unfolding setAside groupsOf holdsAt
 live-left gs live r i l n =
     member-difference live (groupsOf gs r) i ∙ and-both (member live i) (not (member (groupsOf gs r) i)) l
     (not-of-false (member (groupsOf gs r) i) (⊎-elim
-    (λ a. absurd (n (and-right (ltb i 24) (member (getD gs i 0) r) (sym (member-collect 24 (holdsAt gs r) i (lit≤ tt)) ∙ a)))) (λ a. a)
+    (λ a. absurd (n (and-right (ltb i 24) (member (getD gs i 0) r) (sym (member-collect 24 (holdsAt gs r) i (lit≤ tt)) ∙ a))))
+    (λ a. a)
     (either (member (groupsOf gs r) i))))
 
 -- ---- parts are components
 
-module _ (gs : List ℕ) (live among : ℕ) (tab : Table gs) (closed : Closed gs live among) (units : (u : ℕ) → member among u ≡ true → u < 32) where
+module _ (gs : List ℕ) (live among : ℕ) (tab : Table gs) (closed : Closed gs live among) (units : (u : ℕ)
+    → member among u ≡ true → u < 32) where
   pub component-part : (u : ℕ) → member among u ≡ true → IsPart gs live among (component gs live u)
   component-part u m = record {
     bounded = component-below gs live tab u;
@@ -110,14 +113,16 @@ module _ (n : ℕ) (gs : List ℕ) (bench : Bench n gs) where
         let mu = in-rest s r u root-small m .0 in
         let closed = component-closed gs live (bench .table) u (unit-small (f .units u mu)) in
         rest-in s r v
-        (ap (λ (x : ℕ). member x v) (sym (f .same u mu)) ∙ closed i u v (left .0) a b (ap (λ (x : ℕ). member x u) (f .same u mu) ∙ mu))
+        (ap (λ (x : ℕ). member x v) (sym (f .same u mu)) ∙ closed i u v (left .0) a b
+        (ap (λ (x : ℕ). member x u) (f .same u mu) ∙ mu))
         (λ e. left .1 (subst (λ (x : ℕ). member (getD gs i 0) x ≡ true) e b))
 
     rest-units : (u : ℕ) → member (excluding s r) u ≡ true → u < 32
     rest-units u m = unit-small (f .units u (in-rest s r u root-small m .0))
 
     -- a smaller part lies in the rest
-    pub component-in-rest : (u : ℕ) → member s u ≡ true → (u ≡ r → ⊥) → Subset (component gs (setAside gs live r) u) (excluding s r)
+    pub component-in-rest : (u : ℕ) → member s u ≡ true → (u ≡ r → ⊥)
+        → Subset (component gs (setAside gs live r) u) (excluding s r)
     unfolding Subset
     component-in-rest u m k v a = joined-among
         (component-joined gs (setAside gs live r) (bench .table) (excluding s r) rest-closed u v (rest-in s r u m k) a)
@@ -125,7 +130,8 @@ module _ (n : ℕ) (gs : List ℕ) (bench : Bench n gs) where
     pub smaller-size : (u : ℕ) → member s u ≡ true → (u ≡ r → ⊥) → size (component gs (setAside gs live r) u) < size s
     unfolding Subset
     smaller-size u m k =
-        size-less (component gs (setAside gs live r) u) s r (λ v a. in-rest s r v root-small (component-in-rest u m k v a) .0) root-small rm
+        size-less (component gs (setAside gs live r) u) s r (λ v a. in-rest s r v root-small (component-in-rest u m k v a) .0)
+        root-small rm
         (⊎-elim (λ a. absurd (in-rest s r r root-small (component-in-rest u m k r a) .1 refl)) (λ a. a)
         (either (member (component gs (setAside gs live r) u) r)))
 
@@ -133,7 +139,8 @@ module _ (n : ℕ) (gs : List ℕ) (bench : Bench n gs) where
         → IsPart gs (setAside gs live r) (excluding s r) (component gs (setAside gs live r) u)
     rest-part u m k = component-part gs (setAside gs live r) (excluding s r) (bench .table) rest-closed rest-units u (rest-in s r u m k)
 
-    pub rest-component : {t : ℕ} (p : IsPart gs (setAside gs live r) (excluding s r) t) → t ≡ component gs (setAside gs live r) (p .unit)
+    pub rest-component : {t : ℕ} (p : IsPart gs (setAside gs live r) (excluding s r) t)
+        → t ≡ component gs (setAside gs live r) (p .unit)
     rest-component p = part-component gs (setAside gs live r) (excluding s r) (bench .table) rest-closed rest-units p
 
   -- ---- laid parts
@@ -171,7 +178,8 @@ module _ (n : ℕ) (gs : List ℕ) (bench : Bench n gs) where
   part-inside p = p .every (p .unit) .1 (itself (p .inside))
 
   -- a part laid below a root lies in that root's part, without the root
-  laid-inside : {s live top t : ℕ} (r : ℕ) (l : Laid n gs s live top) (q : IsRoot gs s r) (p : IsPart gs (setAside gs live r) (excluding s r) t)
+  laid-inside : {s live top t : ℕ} (r : ℕ) (l : Laid n gs s live top) (q : IsRoot gs s r)
+      (p : IsPart gs (setAside gs live r) (excluding s r) t)
       → (u : ℕ) → member t u ≡ true → (member s u ≡ true) × (u ≡ r → ⊥)
   laid-inside {s} {live} r l q p u m = in-rest s r u (root-small s live r (laid-facts l) (q .inside)) (joined-among (p .every u .0 m))
 
@@ -181,9 +189,14 @@ module _ (n : ℕ) (gs : List ℕ) (bench : Bench n gs) where
   laid-size (smaller {s} {live} {top} {t} r l q p) =
       let f = laid-facts l in
       let m = laid-inside r l q p (p .unit) (part-inside p) in
-      omega (arith, laid-size l, ap size (rest-component s live r f (q .inside) p), smaller-size s live r f (q .inside) (p .unit) (m .0) (m .1))
+      omega (
+        arith,
+        laid-size l,
+        ap size (rest-component s live r f (q .inside) p),
+        smaller-size s live r f (q .inside) (p .unit) (m .0) (m .1),
+      )
 
-  -- the root of a part of depth d is found after d steps of the rule
+  -- a part's root, at depth d, is found after d steps of the rule
   laid-steps : {s live top : ℕ} (l : Laid n gs s live top) (k u : ℕ) → k + depth l ≡ 32 → member s u ≡ true
       → builtParent gs u ≡ parentWithin k gs live top u
   unfolding depth builtParent parentWithin
@@ -242,7 +255,8 @@ module _ (n : ℕ) (gs : List ℕ) (bench : Bench n gs) where
   same-depth (smaller {s} {live} r l q p) (smaller {s = s′} {live = live′} r′ l′ q′ p′) u e m m′ =
       let outside = same-depth l l′ u (omega arith) (laid-inside r l q p u m .0) (laid-inside r′ l′ q′ p′ u m′ .0) in
       let roots : r ≡ r′ = root-unique gs s r r′ q (subst (λ (x : ℕ). IsRoot gs x r′) (sym (outside .parts)) q′) in
-      let lefts : setAside gs live r ≡ setAside gs live′ r′ = ap (λ (x : ℕ). setAside gs x r) (outside .lives) ∙ ap (setAside gs live′) roots in
+      let lefts : setAside gs live r ≡ setAside gs live′ r′ = ap (λ (x : ℕ). setAside gs x r) (outside .lives)
+      ∙ ap (setAside gs live′) roots in
       record {
         parts = sym (laid-facts (smaller r l q p) .same u m) ∙ ap (λ (x : ℕ). component gs x u) lefts ∙ laid-facts
             (smaller r′ l′ q′ p′) .same u m′;
@@ -289,8 +303,9 @@ module _ (n : ℕ) (gs : List ℕ) (bench : Bench n gs) where
         without = λ m. o .without (laid-inside r l q p (o .top-root) m .0);
       })
 
-  -- the root of a part is in no deeper part
-  not-deeper : {s live top s′ live′ top′ : ℕ} (l : Laid n gs s live top) (l′ : Laid n gs s′ live′ top′) (u : ℕ) → IsRoot gs s u
+  -- a part's root is in no deeper part
+  not-deeper : {s live top s′ live′ top′ : ℕ} (l : Laid n gs s live top) (l′ : Laid n gs s′ live′ top′)
+      (u : ℕ) → IsRoot gs s u
       → member s′ u ≡ true → depth l < depth l′ → ⊥
   not-deeper {s} {s′ = t} l l′ u q m h =
       let o = outer l′ (depth l) h in
@@ -298,12 +313,14 @@ module _ (n : ℕ) (gs : List ℕ) (bench : Bench n gs) where
       o .without (subst (λ (x : ℕ). member t x ≡ true)
       (sym (root-unique gs s (o .top-root) u (subst (λ (x : ℕ). IsRoot gs x (o .top-root)) (same .parts) (o .is-root)) q)) m)
 
-  pub laid-depth : {s live top s′ live′ top′ : ℕ} (l : Laid n gs s live top) (l′ : Laid n gs s′ live′ top′) (u : ℕ) → IsRoot gs s u
+  pub laid-depth : {s live top s′ live′ top′ : ℕ} (l : Laid n gs s live top) (l′ : Laid n gs s′ live′ top′)
+      (u : ℕ) → IsRoot gs s u
       → IsRoot gs s′ u → depth l ≡ depth l′
   laid-depth l l′ u q q′ = by-cases (decLt (depth l) (depth l′)) (λ h. absurd (not-deeper l l′ u q (q′ .inside) h))
       (λ h. by-cases (decLt (depth l′) (depth l)) (λ h′. absurd (not-deeper l′ l u q′ (q .inside) h′)) (λ h′. omega arith))
 
-  pub laid-once : {s live top s′ live′ top′ : ℕ} → Laid n gs s live top → Laid n gs s′ live′ top′ → (u : ℕ) → IsRoot gs s u → IsRoot gs s′ u
+  pub laid-once : {s live top s′ live′ top′ : ℕ} → Laid n gs s live top → Laid n gs s′ live′ top′ → (u : ℕ)
+      → IsRoot gs s u → IsRoot gs s′ u
       → Same s s′ live live′ top top′
   laid-once l l′ u q q′ = same-depth l l′ u (laid-depth l l′ u q q′) (q .inside) (q′ .inside)
 
@@ -311,21 +328,24 @@ module _ (n : ℕ) (gs : List ℕ) (bench : Bench n gs) where
   pub rule-part : (u : ℕ) → u < n → (w : RootOf n gs u) × (builtParent gs u ≡ w .top)
   rule-part u h = let w = root-of u h in (w, laid-parent (w .laid) u (w .is-root))
 
-  -- ---- a unit in no group
+  -- ---- a unit that no group holds
 
-  alone : (u live v : ℕ) → ((i : ℕ) → member (getD gs i 0) u ≡ true → ⊥) → member (component gs live u) v ≡ true → v ≡ u
+  alone : (u live v : ℕ) → ((i : ℕ) → member (getD gs i 0) u ≡ true → ⊥)
+      → member (component gs live u) v ≡ true → v ≡ u
   alone u live v none = component-keeps gs live (bench .table) (λ x. x ≡ u)
       (λ i w x l a b e. absurd (none i (subst (λ (y : ℕ). member (getD gs i 0) y ≡ true) e a))) u refl v
 
-  -- A unit in no group is a root, and no part is laid below it.
+  -- A unit that no group holds is a root, and no part is laid below it.
   pub lonely-root : (u : ℕ) → u < n → ((i : ℕ) → member (getD gs i 0) u ≡ true → ⊥) → builtParent gs u ≡ 255
   lonely-root u h none =
       let self = component-self gs (below 24) (bench .table) u (unit-small h) in
       let q = root-is gs (component gs (below 24) u) u (component-below gs (below 24) (bench .table) u) self in
       laid-parent (whole-part u h) u
-      (subst (λ (x : ℕ). IsRoot gs (component gs (below 24) u) x) (alone u (below 24) (root gs (component gs (below 24) u)) none (q .inside)) q)
+      (subst (λ (x : ℕ). IsRoot gs (component gs (below 24) u) x) (alone u (below 24)
+      (root gs (component gs (below 24) u)) none (q .inside)) q)
 
-  pub lonely-top : {s live top : ℕ} → Laid n gs s live top → (u : ℕ) → u < n → ((i : ℕ) → member (getD gs i 0) u ≡ true → ⊥) → top ≡ u → ⊥
+  pub lonely-top : {s live top : ℕ} → Laid n gs s live top → (u : ℕ) → u < n
+      → ((i : ℕ) → member (getD gs i 0) u ≡ true → ⊥) → top ≡ u → ⊥
   lonely-top (whole p) u h none e = lt-irrefl 32 (let z : 255 < 32 = subst (λ (x : ℕ). x < 32) (sym e) (unit-small h) in omega arith)
   lonely-top (smaller {s} {live} r l q p) u h none e =
       let i = laid-inside r l q p (p .unit) (part-inside p) in

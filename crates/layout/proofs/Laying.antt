@@ -12,7 +12,8 @@ use lib.Seq.{getD-set-same, getD-set-other}
 use lib.Dec.{eqb}
 use borrow.Author.Tests.{eq-eqb, ne-eqb}
 use Rattle.sets.specs.Sets.{member, difference, excluding, size, lowest, below}
-use Rattle.sets.proofs.Bools.{either, clash, and-left, and-right, and-both, not-of-false, false-of-not, not-true-false, cond-true, cond-false}
+use Rattle.sets.proofs.Bools.{either, clash, and-left, and-right, and-both, not-of-false, false-of-not, not-true-false, cond-true}
+use Rattle.sets.proofs.Bools.{cond-false}
 use Rattle.sets.proofs.Laws.{Subset, member-below, in-below, member-difference, member-empty, difference-below}
 use Rattle.sets.proofs.Laws.{excluding-below, size-subset, size-less, size-excluding, size-below, lowest-of-some, not-empty}
 use Rattle.sets.proofs.Laws.{not-member, below-below, none-collect}
@@ -31,11 +32,13 @@ pub record Laying (gs : List ℕ) (live top all : ℕ) (before table : List ℕ)
   pub bounded : rest < 2 ^ 32
   pub within : (u : ℕ) → member rest u ≡ true → member all u ≡ true
   pub closed : (u v : ℕ) → member rest u ≡ true → member (component gs live u) v ≡ true → member rest v ≡ true
-  pub done : (u k : ℕ) → member all u ≡ true → member rest u ≡ false → size all ≤ k → getD table u 255 ≡ parentWithin k gs live top u
+  pub done : (u k : ℕ) → member all u ≡ true → member rest u ≡ false → size all ≤ k
+      → getD table u 255 ≡ parentWithin k gs live top u
   pub kept : (u : ℕ) → member all u ≡ false → getD table u 255 ≡ getD before u 255
 
 pub laying-none : {gs : List ℕ} {live top all : ℕ} {before : List ℕ} → length before ≡ 32 → all < 2 ^ 32
-    → ((u v : ℕ) → member all u ≡ true → member (component gs live u) v ≡ true → member all v ≡ true) → Laying gs live top all before before all
+    → ((u v : ℕ) → member all u ≡ true → member (component gs live u) v ≡ true → member all v ≡ true)
+    → Laying gs live top all before before all
 laying-none l b h = record {
   long = l;
   bounded = b;
@@ -45,7 +48,8 @@ laying-none l b h = record {
   kept = λ u f. refl;
 }
 
-module _ {gs : List ℕ} {live top all : ℕ} {before table : List ℕ} {rest : ℕ} (tab : Table gs) (h : Laying gs live top all before table rest) (some : rest ≡ 0 → ⊥) where
+module _ {gs : List ℕ} {live top all : ℕ} {before table : List ℕ} {rest : ℕ} (tab : Table gs)
+    (h : Laying gs live top all before table rest) (some : rest ≡ 0 → ⊥) where
   low : (lowest rest < 32) × (member rest (lowest rest) ≡ true)
   low = lowest-of-some rest (h .bounded) some
 
@@ -57,7 +61,8 @@ module _ {gs : List ℕ} {live top all : ℕ} {before table : List ℕ} {rest : 
   laying-layable e = record {
     groups = tab;
     table = e;
-    some = let n = not-empty (component gs live (lowest rest)) (lowest rest) (component-self gs live tab (lowest rest) (low .0)) in omega arith;
+    some = let n = not-empty (component gs live (lowest rest)) (lowest rest) (component-self gs live tab (lowest rest) (low .0)) in
+        omega arith;
     same = λ u m. component-same gs live tab (lowest rest) u (low .0) m;
     long = h .long;
   }
@@ -71,7 +76,8 @@ module _ {gs : List ℕ} {live top all : ℕ} {before table : List ℕ} {rest : 
   laying-less =
       size-less (difference rest (component gs live (lowest rest))) rest (lowest rest)
       (λ u m. and-left (member rest u) _ (sym (member-difference rest (component gs live (lowest rest)) u) ∙ m)) (low .0) (low .1)
-      (member-difference rest (component gs live (lowest rest)) (lowest rest) ∙ simp (low .1, component-self gs live tab (lowest rest) (low .0)))
+      (member-difference rest (component gs live (lowest rest)) (lowest rest)
+      ∙ simp (low .1, component-self gs live tab (lowest rest) (low .0)))
 
   laying-turn : {after : List ℕ} → LaidOut gs (component gs live (lowest rest)) live top table after
       → Laying gs live top all before after (difference rest (component gs live (lowest rest)))
@@ -79,7 +85,8 @@ module _ {gs : List ℕ} {live top all : ℕ} {before table : List ℕ} {rest : 
     long = o .long;
     bounded = difference-below 32 rest part (h .bounded);
     within = λ u m. h .within u (left u m .0);
-    closed = λ u v m a. put v (h .closed u v (left u m .0) a) (not-true-false (member part v) (λ p. clash (same u v m a p) (left u m .1)));
+    closed = λ u v m a. put v (h .closed u v (left u m .0) a) (not-true-false (member part v)
+        (λ p. clash (same u v m a p) (left u m .1)));
     done = λ u k m f s. ⊎-elim (λ (p : member part u ≡ true). o .inside u k p (le-trans laying-size s))
         (λ (p : member part u ≡ false). o .outside u p ∙ h .done u k m (not-true-false (member rest u) (λ q. clash (put u q p) f)) s)
         (either (member part u));
@@ -109,7 +116,8 @@ module _ {gs : List ℕ} {live top all : ℕ} {before table : List ℕ} {rest : 
           ∙ component-self gs live tab u b
 
 -- the same of a turn of the code: u is the lowest unit left, and `part` its component
-module _ {gs : List ℕ} {live top all : ℕ} {before table : List ℕ} {rest : ℕ} (tab : Table gs) (h : Laying gs live top all before table rest) (some : rest ≡ 0 → ⊥)
+module _ {gs : List ℕ} {live top all : ℕ} {before table : List ℕ} {rest : ℕ} (tab : Table gs)
+    (h : Laying gs live top all before table rest) (some : rest ≡ 0 → ⊥)
     {u part : ℕ} (low-unit : u ≡ lowest rest) (next : part ≡ component gs live u) where
   this : component gs live (lowest rest) ≡ part
   this = ap (component gs live) (sym low-unit) ∙ sym next
@@ -167,7 +175,7 @@ module _ {gs of parents : List ℕ} {part live : ℕ} (small : part < 2 ^ 32) (h
       (λ u v m a. let i = in-rest part (root gs part) u root-below m in
       component-in-rest 32 gs (table-bench gs (h .groups)) part live (root gs part) facts (root-of-part .inside) u (i .0) (i .1) v a)
 
-  -- the root has been set, and each smaller part is laid
+  -- the root has been set, and all smaller parts are laid
   pub part-ends : {top rest : ℕ} {table : List ℕ}
       → Laying gs (setAside gs live (root gs part)) (root gs part) (excluding part (root gs part))
       (set parents (root gs part) top) table rest → rest ≡ 0
@@ -197,10 +205,12 @@ module _ {gs of parents : List ℕ} {part live : ℕ} (small : part < 2 ^ 32) (h
           ∙ sym (cond-true (eqb r (root gs (component gs live r))) top _
           (eq-eqb r (root gs (component gs live r)) (sym (found r (root-of-part .inside)))))
 
-      below-root : (u k : ℕ) → member part u ≡ true → (u ≡ r → ⊥) → size part ≤ k → getD table u 255 ≡ parentWithin k gs live top u
+      below-root : (u k : ℕ) → member part u ≡ true → (u ≡ r → ⊥) → size part ≤ k
+          → getD table u 255 ≡ parentWithin k gs live top u
       below-root u zero m q s = absurd (not-suc-le-zero (le-trans rest-smaller s))
       below-root u (suc k) m q s =
-          y .done u k (rest-in part r u m q) (ap (λ (x : ℕ). member x u) e ∙ member-empty u) (le-of-suc-le-suc (le-trans rest-smaller s))
+          y .done u k (rest-in part r u m q) (ap (λ (x : ℕ). member x u) e ∙ member-empty u)
+          (le-of-suc-le-suc (le-trans rest-smaller s))
           ∙ sym (cond-false (eqb u (root gs (component gs live u))) top
           (parentWithin k gs (setAside gs live (root gs (component gs live u))) (root gs (component gs live u)) u)
           (ne-eqb u (root gs (component gs live u)) (λ z. q (z ∙ found u m)))
@@ -208,7 +218,8 @@ module _ {gs of parents : List ℕ} {part live : ℕ} (small : part < 2 ^ 32) (h
 
 -- the same of the code's root r, the groups left and the units left
 module _ {gs of parents : List ℕ} {part live r fewer all : ℕ} (small : part < 2 ^ 32) (h : Layable gs of part live parents)
-    (top-unit : r ≡ largestWithin 32 (degreeIn of) part) (left : fewer ≡ difference live (getD of r 0)) (others : all ≡ excluding part r) where
+    (top-unit : r ≡ largestWithin 32 (degreeIn of) part) (left : fewer ≡ difference live (getD of r 0))
+    (others : all ≡ excluding part r) where
   is-root : r ≡ root gs part
   is-root = top-unit ∙ ap (λ (x : List ℕ). largestWithin 32 (degreeIn x) part) (h .table) ∙ root-by-table gs part (h .groups)
 
@@ -240,7 +251,8 @@ pub all-starts : {gs before : List ℕ} {live all : ℕ} → Table gs → live �
 all-starts {gs} tab e f l = rw (e, f) (laying-none l (below-below 32)
     (λ u v m a. let h = member-below 32 (component gs (below 24) u) v (component-below gs (below 24) tab u) a in in-below 32 v h h))
 
-pub all-ends : {gs before table : List ℕ} {live all rest : ℕ} → live ≡ below 24 → all ≡ below 32 → Laying gs live 255 all before table rest
+pub all-ends : {gs before table : List ℕ} {live all rest : ℕ} → live ≡ below 24 → all ≡ below 32
+    → Laying gs live 255 all before table rest
     → rest ≡ 0
     → table ≡ tabulate 32 (builtParent gs)
 unfolding builtParent

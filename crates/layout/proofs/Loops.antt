@@ -36,7 +36,8 @@ pub record Filled (n : ℕ) (f : ℕ → ℕ) (l : List ℕ) (i : ℕ) : Type 0 
 pub filled-none : {n : ℕ} {f : ℕ → ℕ} {l : List ℕ} → length l ≡ n → Filled n f l 0
 filled-none e = record { within = omega arith; long = e; right = λ j h. absurd (not-suc-le-zero h) }
 
-pub filled-turn : {n : ℕ} {f : ℕ → ℕ} {l : List ℕ} {i v : ℕ} → Filled n f l i → i < n → v ≡ f i → Filled n f (set l i v) (i + 1)
+pub filled-turn : {n : ℕ} {f : ℕ → ℕ} {l : List ℕ} {i v : ℕ} → Filled n f l i → i < n → v ≡ f i
+    → Filled n f (set l i v) (i + 1)
 filled-turn {n} {f} {l} {i} {v} h b e = record {
   within = omega arith;
   long = length-set l i v ∙ h .long;
@@ -56,7 +57,8 @@ pub record Reached {A : Type 0} (n : ℕ) (g : ℕ → A) (s : A) (i : ℕ) : Ty
 pub reached-all : {A : Type 0} {n : ℕ} {g : ℕ → A} {s : A} {i : ℕ} → Reached n g s i → n ≤ i → s ≡ g n
 reached-all {A} {n} {g} h b = h .right ∙ ap g (le-antisymm (h .within) b)
 
-pub reached-turn : {A : Type 0} {n : ℕ} {g : ℕ → A} {s r : A} {i : ℕ} → Reached n g s i → i < n → r ≡ g (suc i) → Reached n g r (i + 1)
+pub reached-turn : {A : Type 0} {n : ℕ} {g : ℕ → A} {s r : A} {i : ℕ} → Reached n g s i → i < n → r ≡ g (suc i)
+    → Reached n g r (i + 1)
 reached-turn {A} {n} {g} {s} {r} {i} h b e = record { within = omega arith; right = e ∙ ap g (sym (add-one i)) }
 
 -- a set that is collected by a test
@@ -90,7 +92,8 @@ module _ (s : ℕ) (new old : ℕ → ℕ) where
   updated-none l e h = tabulated 32 _ l 0 e (λ u b. h u b ∙ simp (le-ltb u 0 zero-le))
 
   -- the entry at k, and all others, before and after k is passed
-  updated-other : (k u : ℕ) → (u ≡ k → ⊥) → cond (ltb u (suc k) && member s u) (new u) (old u) ≡ cond (ltb u k && member s u) (new u) (old u)
+  updated-other : (k u : ℕ) → (u ≡ k → ⊥) → cond (ltb u (suc k) && member s u) (new u) (old u)
+      ≡ cond (ltb u k && member s u) (new u) (old u)
   updated-other k u n = by-cases (decLt u k)
       (λ (h : u < k). simp (lt-ltb u k h, lt-ltb u (suc k) (omega arith)))
       (λ (h : u < k → ⊥). simp (le-ltb u k (omega arith), le-ltb u (suc k) (omega arith)))

@@ -29,7 +29,8 @@ Closed gs live among =
 -- a place that holds a unit is below 24
 pub place-below : (gs : List ℕ) → Table gs → (i u : ℕ) → member (getD gs i 0) u ≡ true → i < 24
 place-below gs tab i u m = by-cases (decLt i 24) (λ h. h)
-    (λ h. absurd (clash m (ap (λ (x : ℕ). member x u) (List·getD-eq-default gs 0 (subst (λ (x : ℕ). x ≤ i) (sym (tab .long)) (omega arith)))
+    (λ h. absurd (clash m (ap (λ (x : ℕ). member x u) (List·getD-eq-default gs 0
+    (subst (λ (x : ℕ). x ≤ i) (sym (tab .long)) (omega arith)))
     ∙ member-empty u)))
 
 -- ---- joined
@@ -45,7 +46,8 @@ joined-among (together i l a b p q) = b
 joined-among (chain p q) = joined-among q
 
 -- a closed set that holds one of two joined units holds the other
-joined-in : {gs : List ℕ} {live among u v : ℕ} (s : ℕ) → Closed gs live s → Joined gs live among u v → member s u ≡ true → member s v ≡ true
+joined-in : {gs : List ℕ} {live among u v : ℕ} (s : ℕ) → Closed gs live s → Joined gs live among u v → member s u ≡ true
+    → member s v ≡ true
 unfolding Closed
 joined-in s closed (itself m) h = h
 joined-in s closed (together {u} {v} i l a b p q) h = closed i u v l p q h
@@ -183,15 +185,18 @@ module _ (gs : List ℕ) (live : ℕ) where
 
     -- a property that live groups hand on holds of all that is spread to
     module _ (Q : ℕ → Type 0)
-        (hands-on : (i u v : ℕ) → member live i ≡ true → member (getD gs i 0) u ≡ true → member (getD gs i 0) v ≡ true → Q u → Q v) where
-      spread-keeps : (k s : ℕ) → s < 2 ^ 32 → ((v : ℕ) → member s v ≡ true → Q v) → (v : ℕ) → member (spread k gs live s) v ≡ true → Q v
+        (hands-on : (i u v : ℕ) → member live i ≡ true → member (getD gs i 0) u ≡ true
+        → member (getD gs i 0) v ≡ true → Q u → Q v) where
+      spread-keeps : (k s : ℕ) → s < 2 ^ 32 → ((v : ℕ) → member s v ≡ true → Q v) → (v : ℕ)
+          → member (spread k gs live s) v ≡ true → Q v
       unfolding spread
       spread-keeps zero s b h v m = h v m
       spread-keeps (suc k) s b h v m = ⊎-elim (λ a. spread-keeps k s b h v a)
           (λ w. hands-on k (w .0) v (w .1) (w .3) (w .4) (spread-keeps k s b h (w .0) (w .2)))
           (absorbed-from (spread k gs live s) (getD gs k 0) v (member live k) (spread-below k s b) m)
 
-      rounds-keeps : (k s : ℕ) → s < 2 ^ 32 → ((v : ℕ) → member s v ≡ true → Q v) → (v : ℕ) → member (rounds k gs live s) v ≡ true → Q v
+      rounds-keeps : (k s : ℕ) → s < 2 ^ 32 → ((v : ℕ) → member s v ≡ true → Q v) → (v : ℕ)
+          → member (rounds k gs live s) v ≡ true → Q v
       unfolding rounds
       rounds-keeps zero s b h v m = h v m
       rounds-keeps (suc k) s b h v m = rounds-keeps k (spread 24 gs live s) (spread-below 24 s b) (spread-keeps 24 s b h) v m
@@ -220,7 +225,8 @@ module _ (gs : List ℕ) (live : ℕ) where
 
     module _ (among : ℕ) (closed : Closed gs live among) where
       -- a component is a class of "joined": every member is joined to u, and every unit joined to u is a member
-      pub component-joined : (u v : ℕ) → member among u ≡ true → member (component gs live u) v ≡ true → Joined gs live among u v
+      pub component-joined : (u v : ℕ) → member among u ≡ true → member (component gs live u) v ≡ true
+          → Joined gs live among u v
       unfolding Closed
       component-joined u v a m =
           component-keeps (λ w. Joined gs live among u w)
@@ -230,7 +236,8 @@ module _ (gs : List ℕ) (live : ℕ) where
       joined-component u v h j = joined-in (component gs live u) (component-closed u h) j (component-self u h)
 
 -- groups of the first n units lie among them
-pub units-closed : (n : ℕ) (gs : List ℕ) (live : ℕ) → n ≤ 32 → ((i u : ℕ) → member (getD gs i 0) u ≡ true → u < n) → Closed gs live (below n)
+pub units-closed : (n : ℕ) (gs : List ℕ) (live : ℕ) → n ≤ 32 → ((i u : ℕ) → member (getD gs i 0) u ≡ true → u < n)
+    → Closed gs live (below n)
 unfolding Closed
 units-closed n gs live few within i u v l a b m = let h = within i v b in in-below n v (le-trans h few) h
 

@@ -1,4 +1,4 @@
--- The root of a part is its unit in most groups of the whole bench, among equals the lowest, and there is only one. Assumes nothing.
+-- A part's root has the greatest degree in the part, among several such units the lowest number, and there is only one. Assumes nothing.
 use mathlib.Core.Path.{_≡_, refl, sym, subst}
 use mathlib.Core.Logic.{_⊎_, inl, inr, ⊎-elim, by-cases}
 use mathlib.Core.Bool.{true, false, _&&_, _||_, cond, or-true}
@@ -47,7 +47,8 @@ module _ (deg : ℕ → ℕ) (s : ℕ) where
       Next r = Search deg s (suc k) (cond (member s k && (eqb r 32 || ltb (deg r) (deg k))) k r)
 
       taken : (r : ℕ) → (member s k && (eqb r 32 || ltb (deg r) (deg k))) ≡ true → Found deg s (suc k) k → Next r
-      taken r e f = inr (subst (λ (x : ℕ). Found deg s (suc k) x) (sym (cond-true (member s k && (eqb r 32 || ltb (deg r) (deg k))) k r e)) f)
+      taken r e f = inr (subst (λ (x : ℕ). Found deg s (suc k) x) (sym
+          (cond-true (member s k && (eqb r 32 || ltb (deg r) (deg k))) k r e)) f)
 
       left : (r : ℕ) → (member s k && (eqb r 32 || ltb (deg r) (deg k))) ≡ false → Search deg s (suc k) r → Next r
       left r e f = subst (λ (x : ℕ). Search deg s (suc k) x) (sym (cond-false (member s k && (eqb r 32 || ltb (deg r) (deg k))) k r e)) f
@@ -75,7 +76,8 @@ module _ (deg : ℕ → ℕ) (s : ℕ) where
         low = le-trans (f .low) (le-suc k);
         inside = f .inside;
         most = below-suc (λ u. member s u ≡ true → Behind deg r u) k (f .most)
-            (λ a. let q = ltb-false (deg r) (deg k) l in let b = f .low in by-cases (ℕ-discrete (deg k) (deg r)) (λ z. inr (z, omega arith))
+            (λ a. let q = ltb-false (deg r) (deg k) l in let b = f .low in
+            by-cases (ℕ-discrete (deg k) (deg r)) (λ z. inr (z, omega arith))
             (λ z. inl (omega arith)));
       }))
       go r (inr f) (inr m) l = left r (simp m) (inr (record {

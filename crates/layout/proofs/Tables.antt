@@ -26,7 +26,8 @@ pub getD-past : {A : Type 0} (n : ℕ) (f : ℕ → A) (i : ℕ) (d : A) → n �
 getD-past n f i d h = List·getD-eq-default (tabulate n f) d (subst (λ (x : ℕ). x ≤ i) (sym (length-tabulate n f)) h)
 
 -- a list is a table where it has the table's length and entries
-pub tabulated : {A : Type 0} (n : ℕ) (f : ℕ → A) (l : List A) (d : A) → length l ≡ n → ((i : ℕ) → i < n → getD l i d ≡ f i) → l ≡ tabulate n f
+pub tabulated : {A : Type 0} (n : ℕ) (f : ℕ → A) (l : List A) (d : A) → length l ≡ n
+    → ((i : ℕ) → i < n → getD l i d ≡ f i) → l ≡ tabulate n f
 tabulated n f l d e h =
     ext-getD d l (tabulate n f) (e ∙ sym (length-tabulate n f))
     (λ i b. let b′ : i < n = subst (λ (x : ℕ). i < x) e b in h i b′ ∙ sym (getD-tabulate n f i d b′))
@@ -34,10 +35,13 @@ tabulated n f l d e h =
 pub same-tables : {A : Type 0} (n : ℕ) (f g : ℕ → A) → ((i : ℕ) → i < n → f i ≡ g i) → tabulate n f ≡ tabulate n g
 unfolding tabulate
 same-tables zero f g h = refl
-same-tables (suc n) f g h = λ j. h 0 (suc-le-suc zero-le) j ∷ same-tables n (λ i. f (suc i)) (λ i. g (suc i)) (λ i b. h (suc i) (suc-le-suc b)) j
+same-tables (suc n) f g h = λ j. h 0 (suc-le-suc zero-le) j ∷ same-tables n (λ i. f (suc i)) (λ i. g (suc i))
+    (λ i b. h (suc i) (suc-le-suc b)) j
 
 -- one turn of a loop that collects the numbers that pass a test: `t` is what the test said of i
-pub collect-turn : (f : ℕ → Bool) (i s r : ℕ) (t : Bool) → s ≡ collect i f → t ≡ f i → r ≡ includingIf s i t → r ≡ collect (i + 1) f
+pub collect-turn : (f : ℕ → Bool) (i s r : ℕ) (t : Bool) → s ≡ collect i f → t ≡ f i → r ≡ includingIf s i t
+    → r ≡ collect (i + 1) f
 unfolding collect
 collect-turn f i s r t hs ht hr =
-    hr ∙ ap (λ (x : ℕ). includingIf x i t) hs ∙ ap (includingIf (collect i f) i) ht ∙ ap (λ (n : ℕ). collect n f) (sym (add-one i))
+    hr ∙ ap (λ (x : ℕ). includingIf x i t) hs ∙ ap (includingIf (collect i f) i) ht
+    ∙ ap (λ (n : ℕ). collect n f) (sym (add-one i))

@@ -1,5 +1,5 @@
 -- Rules of a built forest (document 01, "A built forest"). Definitions only.
--- gs is a table of 24 groups, empty at the places that do not count; live is the set of the groups not yet set aside.
+-- gs is a table of 24 groups, empty at the places that do not count; live is the set of the groups that are not set aside.
 use mathlib.Core.Path.{_≡_}
 use mathlib.Core.Logic.{_⊎_}
 use Prim.Native.Nat.{ℕ, zero, suc, _≤_, _<_, _^_}
@@ -10,7 +10,7 @@ use lib.Dec.{ltb, eqb}
 use Rattle.sets.specs.Sets.{member, single, union, intersection, difference, excluding, size, collect, below}
 use Rattle.layout.specs.Tables.{tabulate}
 
--- Two of the units `among` are joined by the groups `live`: some group holds both, or a chain of joined units links them.
+-- Two of the units `among` are joined by the groups `live`: one of these holds the two, or they are linked by units joined in turn.
 pub data Joined (gs : List ℕ) (live among : ℕ) : ℕ → ℕ → Type 0 where
   itself : {u : ℕ} → member among u ≡ true → Joined gs live among u u
   together : {u v : ℕ} (i : ℕ) → member live i ≡ true → member among u ≡ true → member among v ≡ true
@@ -25,7 +25,7 @@ holdsAt gs u i = member (getD gs i 0) u
 unfoldable pub groupsOf : List ℕ → ℕ → ℕ
 groupsOf gs u = collect 24 (holdsAt gs u)
 
--- how many groups of the whole bench u belongs to
+-- how many groups of the table hold u, set aside or not
 unfoldable pub degree : List ℕ → ℕ → ℕ
 degree gs u = size (groupsOf gs u)
 
@@ -60,7 +60,7 @@ unfoldable pub largestWithin : ℕ → (ℕ → ℕ) → ℕ → ℕ
 largestWithin zero deg s = 32
 largestWithin (suc k) deg s = betterOf deg s (largestWithin k deg s) k
 
--- the root of s: its unit in most groups of the whole bench, among equals the lowest
+-- the root of s: its unit of greatest degree, among several the lowest
 unfoldable pub root : List ℕ → ℕ → ℕ
 root gs s = largestWithin 32 (degree gs) s
 
@@ -77,13 +77,13 @@ parentWithin (suc k) gs live top u =
 unfoldable pub builtParent : List ℕ → ℕ → ℕ
 builtParent gs u = parentWithin 32 gs (below 24) 255 u
 
--- the built forest on n units: 32 parents, 255 at every place past the units
+-- the built forest on n units: 32 parents, 255 from place n on
 unfoldable pub built : ℕ → List ℕ → List ℕ
 built n gs = tabulate 32 (λ u. cond (ltb u n) (builtParent gs u) 255)
 
 -- The rule in document 01's own words, as relations.
 
--- r is the unit of s in most groups of the whole bench, among equals the lowest
+-- r is the unit of s of greatest degree, among several the lowest
 pub record IsRoot (gs : List ℕ) (s r : ℕ) : Type 0 where
   pub inside : member s r ≡ true
   pub most : (u : ℕ) → member s u ≡ true → (degree gs u < degree gs r) ⊎ ((degree gs u ≡ degree gs r) × (r ≤ u))

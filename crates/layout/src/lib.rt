@@ -103,7 +103,7 @@ fn better(of: &[u32; 32], part: u32, r: usize, k: usize) -> usize
     r
 }
 
-// The root of a part: its unit in most groups, among equals the lowest.
+// The root of the part: its unit in most groups, among equals the lowest.
 fn root(of: &[u32; 32], part: u32) -> usize
     requires { ⌜ length (now of) ≡ 32 ⌝ }
     ensures { λ r. ⌜ r ≡ largestWithin 32 (degreeIn (now (of .entry))) part ⌝ }

@@ -14,7 +14,8 @@ separator false = 44 ∷ []
 -- the members of s from u on, k numbers being looked at
 unfoldable pub memberTexts : ℕ → ℕ → Bool → ℕ → List ℕ
 memberTexts zero u first s = []
-memberTexts (suc k) u first s = cond (member s u) (separator first ++ decimal u ++ memberTexts k (suc u) false s) (memberTexts k (suc u) first s)
+memberTexts (suc k) u first s = cond (member s u) (separator first ++ decimal u ++ memberTexts k (suc u) false s)
+    (memberTexts k (suc u) first s)
 
 unfoldable pub parentTexts : Bool → List ℕ → List ℕ
 parentTexts first [] = []

@@ -1,5 +1,5 @@
-// Lines of a bench file (document 01), written to a lent list from a place on, each with its LF. Each function answers the place after it; at the
-// list's end writing stops.
+// Lines of a bench file (document 01), written to a lent list from a place on, each with its LF. Each function answers the place after it;
+// at the list's end writing stops.
 use text::writing::put;
 use text::writing::put_number;
 use text::writing::put_text;
@@ -86,7 +86,8 @@ fn put_entries(out: &mut [u8], at: usize, parents: [u8; 32], units: u8) -> usize
 
 // The line `parents=`.
 pub fn put_parents(out: &mut [u8], at: usize, build: bool, parents: [u8; 32], units: u8) -> usize
-    ensures { λ r. ⌜ Written (parentsLine (parentsSaid build (take units parents)) ++ 10 ∷ []) at (now (out .entry)) r (now (out .exit)) ⌝ }
+    ensures { λ r. ⌜ Written (parentsLine (parentsSaid build (take units parents)) ++ 10 ∷ []) at (now (out .entry)) r
+        (now (out .exit)) ⌝ }
 {
     let value = put_text(out, at, b"parents=");
     if build {
@@ -99,7 +100,8 @@ pub fn put_parents(out: &mut [u8], at: usize, build: bool, parents: [u8; 32], un
 
 // The three numbers of a send.
 fn put_send(out: &mut [u8], at: usize, source: u16, group: u16, word: u16) -> usize
-    ensures { λ r. ⌜ Written (decimal source ++ 44 ∷ decimal group ++ 44 ∷ decimal word) at (now (out .entry)) r (now (out .exit)) ⌝ }
+    ensures { λ r. ⌜ Written (decimal source ++ 44 ∷ decimal group ++ 44 ∷ decimal word) at (now (out .entry)) r
+        (now (out .exit)) ⌝ }
 {
     let a = put_number(out, at, source);
     let b = put(out, a, 44);

@@ -17,7 +17,8 @@ use Rattle.text.proofs.Pieces.{none-parts}
 use Rattle.text.proofs.Written.{sets-end}
 use Rattle.lines.specs.Lines.{refuse, parentsKey, buildWord, entriesIn, parentOf}
 use Rattle.lines.specs.Lines.{Parents, Build, Drawn, parentsIn, parentsFault, isBuild, parentsTable}
-use Rattle.lines.specs.Fields.{firstLine, faultAt, endAt, upTo, noEntries, parentByte, withEntry, entriesFault, noDrawing, drawingAt}
+use Rattle.lines.specs.Fields.{firstLine, faultAt, endAt, upTo, noEntries, parentByte, withEntry, entriesFault, noDrawing}
+use Rattle.lines.specs.Fields.{drawingAt}
 use Rattle.lines.specs.declared.entries.Entries.{Entries}
 use Rattle.lines.proofs.Ends.{Found, end-missing, fault-line, value-is, said-good, said-faulty}
 use Rattle.lines.proofs.Faults.{refuse-none}
@@ -96,7 +97,8 @@ module _ (units : ℕ) (rest : List ℕ) where
   unfolding drawingAt
   good said h e = said-good (faultAt (parentsFault units) rest) _ (λ f. noDrawing f 0 false) h ∙ simp e
 
-  pub drawing-missing : (end : ℕ) → end ≡ endAt parentsKey rest → end ≡ length rest → drawingAt units rest ≡ noDrawing 3 0 false
+  pub drawing-missing : (end : ℕ) → end ≡ endAt parentsKey rest → end ≡ length rest
+      → drawingAt units rest ≡ noDrawing 3 0 false
   unfolding parentsFault refuse
   drawing-missing end e l =
       faulty 3 (end-missing parentsKey rest end (parentsFault units) e l (λ line h. simp h)) (eqb-false 3 0 refl)

@@ -1,4 +1,5 @@
--- Laws of the line at the start of a text: where it ends, its key, its value and the pieces of it, its fault, and the field that it says. Assumes nothing.
+-- Laws of the first line of a text: where it ends, its key, its value and the pieces of it, its fault, and the field that it says. Assumes
+-- nothing.
 use mathlib.Core.Path.{_≡_, refl, sym, ap, _∙_}
 use mathlib.Core.Logic.{⊎-elim, by-cases}
 use mathlib.Core.Bool.{true, false, cond}
@@ -51,7 +52,8 @@ unfolding endAt
 end-not key rest h = simp h
 
 pub end-found : (key rest : List ℕ) (end : ℕ) → end ≡ endAt key rest → (end ≡ length rest → ⊥) → Found key rest end
-end-found key rest end e n = ⊎-elim (λ h. found h) (λ h. absurd (n (e ∙ end-not key rest h))) (either (startsWith key (firstLine rest)))
+end-found key rest end e n = ⊎-elim (λ h. found h) (λ h. absurd (n (e ∙ end-not key rest h)))
+    (either (startsWith key (firstLine rest)))
   where
     found : startsWith key (firstLine rest) ≡ true → Found key rest end
     found h =
@@ -82,7 +84,8 @@ pub fault-none : (fault : List ℕ → ℕ) (rest : List ℕ) → length rest �
 unfolding faultAt
 fault-none fault rest h = simp (le-ltb (placeOf 10 rest) (length rest) h)
 
-pub fault-line : (fault : List ℕ → ℕ) (rest : List ℕ) → placeOf 10 rest < length rest → faultAt fault rest ≡ fault (firstLine rest)
+pub fault-line : (fault : List ℕ → ℕ) (rest : List ℕ) → placeOf 10 rest < length rest
+    → faultAt fault rest ≡ fault (firstLine rest)
 unfolding faultAt
 fault-line fault rest h = simp (lt-ltb (placeOf 10 rest) (length rest) h)
 
@@ -97,7 +100,8 @@ end-missing key rest end fault e l k = ⊎-elim
 
 -- ---- the value of the line
 
-pub value-is : (key rest : List ℕ) (end : ℕ) → Found key rest end → take (end - length key) (drop (length key) rest) ≡ after key (firstLine rest)
+pub value-is : (key rest : List ℕ) (end : ℕ) → Found key rest end
+    → take (end - length key) (drop (length key) rest) ≡ after key (firstLine rest)
 unfolding after firstLine
 value-is key rest end f =
     part-is (length key) end rest (omega arith) (omega arith) ∙ ap (λ (k : ℕ). drop (length key) (take k rest)) (f .place)
@@ -105,7 +109,8 @@ value-is key rest end f =
 -- ---- a loop over the pieces of a value, that adds what each says to a state
 
 -- what the pieces from `at` on say, added to s, gives what all pieces say, added to the first state
-pub record Reading {S : Type 0} (add : S → ℕ → S) (first : S) (read : List ℕ → ℕ) (v : List ℕ) (s : S) (at : ℕ) : Type 0 where
+pub record Reading {S : Type 0} (add : S → ℕ → S) (first : S) (read : List ℕ → ℕ) (v : List ℕ) (s : S)
+    (at : ℕ) : Type 0 where
   pub within : at ≤ length v + 1
   pub same : foldl add s (map read (piecesFrom 44 at v)) ≡ foldl add first (map read (split 44 v))
 
@@ -125,7 +130,8 @@ module _ {S : Type 0} {add : S → ℕ → S} {first : S} {read : List ℕ → �
       pub reading-within : at + n ≤ length v
       reading-within = omega (arith, turn-place, place-le 44 (drop at v), length-drop at v)
 
-      pub reading-turn : {next : S} → next ≡ add s (read (take (at + n - at) (drop at v))) → Reading add first read v next (at + n + 1)
+      pub reading-turn : {next : S} → next ≡ add s (read (take (at + n - at) (drop at v)))
+          → Reading add first read v next (at + n + 1)
       reading-turn e =
           let k : at + n - at ≡ n = omega arith in
           let p : piecesFrom 44 at v ≡ take (at + n - at) (drop at v) ∷ piecesFrom 44 (at + n + 1) v =
@@ -192,7 +198,8 @@ module _ (key rest : List ℕ) (end least most n : ℕ) (found : Found key rest 
   pub count-high : n ≤ 65535 → least ≤ n → most < n → fieldAt (countFault key least most) (countIn key) rest ≡ noField 5
   unfolding countFault refuse isBad
   count-high h l m =
-      count-faulty 5 (simp (found .key-there, sym said, lt-leb 65536 n (omega arith), le-ltb n least l, lt-ltb most n m)) (eqb-false 5 0 refl)
+      count-faulty 5 (simp (found .key-there, sym said, lt-leb 65536 n (omega arith), le-ltb n least l, lt-ltb most n m))
+      (eqb-false 5 0 refl)
 
   pub count-good : n ≤ 65535 → least ≤ n → n ≤ most
       → fieldAt (countFault key least most) (countIn key) rest ≡ record { fault = 0; used = end + 1; value = n }

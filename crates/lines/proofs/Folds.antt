@@ -53,7 +53,8 @@ module _ {S : Type 0} (add : S → ℕ → S) where
         count-stops ns (add s n) (omega arith) (omega arith))
 
     -- the count tells whether there are k numbers
-    pub count-test : (ns : List ℕ) (s : S) (k : ℕ) → count s ≡ 0 → k < limit → eqb (count (foldl add s ns)) k ≡ eqb (length ns) k
+    pub count-test : (ns : List ℕ) (s : S) (k : ℕ) → count s ≡ 0 → k < limit
+        → eqb (count (foldl add s ns)) k ≡ eqb (length ns) k
     count-test ns s k z h = by-cases (decLt (length ns) limit)
         (λ l. ap (λ (m : ℕ). eqb m k) (count-is ns s (omega arith) ∙ omega arith))
         (λ l. let c : count (foldl add s ns) ≡ limit = count-stops ns s (omega arith) (omega arith) in

@@ -87,7 +87,8 @@ pub list-below : (n : ℕ) (ms : List ℕ) → n ≤ 32 → some (leb n) ms ≡ 
 list-below n ms f h = with-below n 0 ms f (pow-pos n) h
 
 -- a list that is not empty gives a set that is not empty
-pub list-some : (ms : List ℕ) (m : ℕ) (ns : List ℕ) → ms ≡ m ∷ ns → some (leb 32) ms ≡ false → foldl including 0 ms ≡ 0 → ⊥
+pub list-some : (ms : List ℕ) (m : ℕ) (ns : List ℕ) → ms ≡ m ∷ ns → some (leb 32) ms ≡ false
+    → foldl including 0 ms ≡ 0 → ⊥
 list-some ms m ns e h = not-empty (foldl including 0 ms) m (member-list m ms h ∙ ap (has m) e ∙ has-same m m ns refl)
 
 -- ---- the list of a set
@@ -162,5 +163,6 @@ from-unique n (suc k) u s (m ∷ ms) f r b h =
     ∙ from-unique n k (suc u) s (m ∷ ms) (omega arith) (rises-cons (suc u) m ms (omega arith) (p .1)) b (λ v g. h v (omega arith)))
 
 -- the members of the set of a rising list
-pub list-again : (ms : List ℕ) → risesFrom 0 ms ≡ true → some (leb 32) ms ≡ false → membersFrom 32 0 (foldl including 0 ms) ≡ ms
+pub list-again : (ms : List ℕ) → risesFrom 0 ms ≡ true → some (leb 32) ms ≡ false
+    → membersFrom 32 0 (foldl including 0 ms) ≡ ms
 list-again ms r b = from-unique 32 32 0 (foldl including 0 ms) ms (omega arith) r b (λ v l. member-list v ms b)

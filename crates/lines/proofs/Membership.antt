@@ -51,7 +51,8 @@ pub group-missing : (rest : List ℕ) (end units : ℕ) → end ≡ endAt groupK
     → fieldAt (groupFault units) groupIn rest ≡ noField 3
 unfolding groupFault refuse
 group-missing rest end units e l =
-    field-faulty (groupFault units) groupIn rest 3 (end-missing groupKey rest end (groupFault units) e l (λ line h. simp h)) (eqb-false 3 0 refl)
+    field-faulty (groupFault units) groupIn rest 3 (end-missing groupKey rest end (groupFault units) e l
+    (λ line h. simp h)) (eqb-false 3 0 refl)
 
 -- the members m read from the value of the line, and their fault f
 module _ (rest : List ℕ) (end units : ℕ) (found : Found groupKey rest end) (m : Members) (f : ℕ)

@@ -49,7 +49,8 @@ entry-written t h = ⊎-elim
     ap (λ (e : ℕ). parentText (parentOf e)) (entry-root t w) ∙ text-root 255 refl ∙ sym (word-is rootWord t w))
     (λ (w : isWord rootWord t ≡ false).
     let e = entry-unit t w in let l : entry t ≤ 32 = ltb-false 32 (entry t) h
-    in ap (λ (x : ℕ). parentText (parentOf x)) e ∙ text-unit (number t) (λ z. omega arith) ∙ decimal-number t (lt-leb 65536 (number t) (omega arith)))
+    in ap (λ (x : ℕ). parentText (parentOf x)) e ∙ text-unit (number t) (λ z. omega arith)
+    ∙ decimal-number t (lt-leb 65536 (number t) (omega arith)))
     (either (isWord rootWord t))
 
 -- a number is no root
@@ -74,7 +75,8 @@ parent-read n p f (inr l) =
 
 -- ---- all entries
 
-pub entries-written : (v : List ℕ) → some (ltb 32) (entriesIn v) ≡ false → commas (map parentText (map parentOf (entriesIn v))) ≡ v
+pub entries-written : (v : List ℕ) → some (ltb 32) (entriesIn v) ≡ false
+    → commas (map parentText (map parentOf (entriesIn v))) ≡ v
 unfolding commas entriesIn
 entries-written v h =
     ap (join 44) (map-map parentText parentOf (entriesIn v)
@@ -84,7 +86,8 @@ entries-written v h =
 pub entry-parent : (n : ℕ) (es : List ℕ) (u : ℕ) → some (ltb n) es ≡ false
     → (getD (map parentOf es) u 255 ≡ 255) ⊎ (getD (map parentOf es) u 255 < n)
 unfolding parentOf
-entry-parent n es u h = rw (List·getD-map parentOf es u 0) (cases (getD es u 0) (ltb-false n _ (none-at (ltb n) 0 es u (le-ltb n 0 zero-le) h)))
+entry-parent n es u h = rw (List·getD-map parentOf es u 0) (cases (getD es u 0)
+    (ltb-false n _ (none-at (ltb n) 0 es u (le-ltb n 0 zero-le) h)))
   where
     cases : (e : ℕ) → e ≤ n → (parentOf e ≡ 255) ⊎ (parentOf e < n)
     cases zero l = inl refl
@@ -107,7 +110,8 @@ texts-entries n (p ∷ ps) f h =
       are = ap₂ (λ (x : ℕ) (xs : List ℕ). x ∷ xs) (first .is) (rest .are);
     }
 
-pub entries-read : (n : ℕ) (ps : List ℕ) → n ≤ 32 → (ps ≡ [] → ⊥) → ((u : ℕ) → u < length ps → (getD ps u 255 ≡ 255) ⊎ (getD ps u 255 < n))
+pub entries-read : (n : ℕ) (ps : List ℕ) → n ≤ 32 → (ps ≡ [] → ⊥)
+    → ((u : ℕ) → u < length ps → (getD ps u 255 ≡ 255) ⊎ (getD ps u 255 < n))
     → EntriesOf n (entriesIn (commas (map parentText ps))) ps
 unfolding entriesIn
 entries-read n ps f e h = rw (split-commas parentText ps (λ p. text-without 44 p refl refl) e) (texts-entries n ps f h)

@@ -1,5 +1,5 @@
--- Lines read and written: a line without fault is the one written for what it says, and what a line can say is read back from it. No line has a
--- LF, and a fault is a number from 3 to 9. Assumes nothing.
+-- Lines read and written: a line without fault is the one written for what it says, and what a line can say is read back from it. No line
+-- has a LF, and a fault is a number from 3 to 9. Assumes nothing.
 use Rattle.sets.specs.Sets.{including}
 use mathlib.Core.Path.{_≡_, refl, sym, ap, _∙_}
 use mathlib.Core.Logic.{⊎-elim}
@@ -18,10 +18,10 @@ use Rattle.text.specs.Text.{isBad, number, decimal, startsWith, after, isWord, 
 use Rattle.text.proofs.Keys.{starts-append, after-append, word-is, word-same}
 use Rattle.text.proofs.Numbers.{number-decimal, decimal-number, decimal-without}
 use Rattle.text.proofs.Pieces.{Without, without-append}
-use Rattle.lines.specs.Lines.{refuse, commas, numbersIn, unitsKey, groupsKey, countIn, countFault, countLine}
-use Rattle.lines.specs.Lines.{groupKey, groupIn, groupFault, groupLine, risesFrom, membersFrom}
-use Rattle.lines.specs.Lines.{sendKey, arriveKey, Event, Send, Arrive, badSend, eventFault, eventIn, eventLine}
-use Rattle.lines.specs.Lines.{parentsKey, buildWord, Parents, Build, Drawn, entriesIn, parentOf, parentText, parentsFault, parentsIn, parentsLine}
+use Rattle.lines.specs.Lines.{refuse, commas, numbersIn, unitsKey, groupsKey, countIn, countFault, countLine, groupKey, groupIn}
+use Rattle.lines.specs.Lines.{groupFault, groupLine, risesFrom, membersFrom, sendKey, arriveKey, Event, Send, Arrive, badSend}
+use Rattle.lines.specs.Lines.{eventFault, eventIn, eventLine, parentsKey, buildWord, Parents, Build, Drawn, entriesIn, parentOf}
+use Rattle.lines.specs.Lines.{parentText, parentsFault, parentsIn, parentsLine}
 use Rattle.lines.specs.Good.{GoodGroup, GoodParents, GoodEvent}
 use Rattle.lines.proofs.Faults.{none-from, refuse-none, FaultNumber, no-fault, refuse-number, cond-number}
 use Rattle.lines.proofs.Values.{key-written, numbers-written, numbers-read, numbers-some, commas-without}
@@ -60,7 +60,11 @@ count-fault-number key least most line =
 
 pub three-numbers : (ns : List ℕ) → length ns ≡ 3 → ns ≡ getD ns 0 0 ∷ getD ns 1 0 ∷ getD ns 2 0 ∷ []
 three-numbers ns e =
-    drop-cons ns 0 0 (omega arith) ∙ cc (drop-cons ns 1 0 (omega arith), drop-cons ns 2 0 (omega arith), drop-of-length-le ns {i = 3} (omega arith))
+    drop-cons ns 0 0 (omega arith) ∙ cc (
+      drop-cons ns 1 0 (omega arith),
+      drop-cons ns 2 0 (omega arith),
+      drop-of-length-le ns {i = 3} (omega arith),
+    )
 
 no-bad-three : (a b c : ℕ) → a < 65536 → b < 65536 → c < 65536 → some isBad (a ∷ b ∷ c ∷ []) ≡ false
 unfolding some isBad
@@ -94,17 +98,20 @@ send-said line s h =
     let ns = getD (numbersIn v) 0 0 ∷ getD (numbersIn v) 1 0 ∷ getD (numbersIn v) 2 0 ∷ [] in
     let none : some isBad (numbersIn v) ≡ false = rw (t .are) (no-bad-three _ _ _ (omega arith) (t .group) (t .word))
     in simp s (
-      key-written sendKey line (commas (map decimal ns)) s (ap (λ (l : List ℕ). commas (map decimal l)) (sym (t .are)) ∙ numbers-written v none),
+      key-written sendKey line (commas (map decimal ns)) s (ap (λ (l : List ℕ). commas (map decimal l)) (sym (t .are))
+          ∙ numbers-written v none),
       (t .source, t .group, t .word),
     )
 
-arrive-said : (line : List ℕ) → startsWith sendKey line ≡ false → startsWith arriveKey line ≡ true → isBad (number (after arriveKey line)) ≡ false
+arrive-said : (line : List ℕ) → startsWith sendKey line ≡ false → startsWith arriveKey line ≡ true
+    → isBad (number (after arriveKey line)) ≡ false
     → (eventLine (eventIn line) ≡ line) × GoodEvent (eventIn line)
 unfolding eventLine eventIn isBad
 arrive-said line n s h =
     simp n (key-written arriveKey line _ s (decimal-number (after arriveKey line) h), leb-false 65536 (number (after arriveKey line)) h)
 
-pub event-said : (k : ℕ) (line : List ℕ) → eventFault k line ≡ 0 → (eventLine (eventIn line) ≡ line) × GoodEvent (eventIn line) × (k < 3000)
+pub event-said : (k : ℕ) (line : List ℕ) → eventFault k line ≡ 0 → (eventLine (eventIn line) ≡ line)
+    × GoodEvent (eventIn line) × (k < 3000)
 unfolding eventFault
 event-said k line h =
     let a = refuse-none (not (startsWith sendKey line || startsWith arriveKey line)) 2 _ h in
@@ -134,7 +141,8 @@ event-fault-number k line =
 
 -- ---- a group
 
-pub group-said : (n : ℕ) (line : List ℕ) → n ≤ 32 → groupFault n line ≡ 0 → (groupLine (groupIn line) ≡ line) × GoodGroup n (groupIn line)
+pub group-said : (n : ℕ) (line : List ℕ) → n ≤ 32 → groupFault n line ≡ 0 → (groupLine (groupIn line) ≡ line)
+    × GoodGroup n (groupIn line)
 unfolding groupFault groupLine groupIn
 group-said n line f h =
     let v = after groupKey line in let ms = numbersIn v in
@@ -171,7 +179,8 @@ group-fault-number n line =
 drawn-no-build : (ps : List ℕ) → isWord buildWord (commas (map parentText ps)) ≡ false
 unfolding buildWord some
 drawn-no-build ps = let v = commas (map parentText ps) in not-true-false (isWord buildWord v)
-    (λ h. true≢false (ap (some (λ b. eqb b 98)) (sym (word-is buildWord v h)) ∙ commas-without 98 parentText ps refl (λ p. text-without 98 p refl refl)))
+    (λ h. true≢false (ap (some (λ b. eqb b 98)) (sym (word-is buildWord v h))
+    ∙ commas-without 98 parentText ps refl (λ p. text-without 98 p refl refl)))
 
 pub parents-said : (n : ℕ) (line : List ℕ) → n ≤ 32 → parentsFault n line ≡ 0
     → (parentsLine (parentsIn line) ≡ line) × GoodParents n (parentsIn line)
@@ -203,7 +212,14 @@ parents-read n (Drawn ps) o f (l, g) =
     let r = entries-read n ps f (λ z. lt-irrefl 0 (omega (arith, ap length z))) (λ u b. g u (omega arith)) in
     let c : length (entriesIn v) ≡ n = sym (length-map (entriesIn v) parentOf) ∙ ap length (r .are) ∙ l
     in (
-      simp (starts-append parentsKey v, e, w, none-from (suc n) 65537 (entriesIn v) (omega arith) (r .low), r .low, eq-eqb (length (entriesIn v)) n c),
+      simp (
+        starts-append parentsKey v,
+        e,
+        w,
+        none-from (suc n) 65537 (entriesIn v) (omega arith) (r .low),
+        r .low,
+        eq-eqb (length (entriesIn v)) n c,
+      ),
       simp (e, w, r .are),
     )
 
@@ -233,7 +249,8 @@ pub parents-without : (ps : Parents) → Without 10 (parentsLine ps)
 unfolding parentsLine parentsKey buildWord some
 parents-without Build = refl
 parents-without (Drawn ps) =
-    without-append 10 parentsKey (commas (map parentText ps)) refl (commas-without 10 parentText ps refl (λ p. text-without 10 p refl refl))
+    without-append 10 parentsKey (commas (map parentText ps)) refl (commas-without 10 parentText ps refl
+    (λ p. text-without 10 p refl refl))
 
 pub event-without : (e : Event) → Without 10 (eventLine e)
 unfolding eventLine sendKey arriveKey some

@@ -55,7 +55,8 @@ module _ (rest : List ℕ) where
   fault-is : (f : ℕ) → placeOf 10 rest < length rest → eventFault 0 (firstLine rest) ≡ f → faultAt (eventFault 0) rest ≡ f
   fault-is f h e = fault-line (eventFault 0) rest h ∙ e
 
-  pub event-other : placeOf 10 rest < length rest → startsWith sendKey (firstLine rest) ≡ false → startsWith arriveKey (firstLine rest) ≡ false
+  pub event-other : placeOf 10 rest < length rest → startsWith sendKey (firstLine rest) ≡ false
+      → startsWith arriveKey (firstLine rest) ≡ false
       → eventAt rest ≡ noEvent 3
   unfolding eventFault refuse
   event-other h s a = event-faulty 3 (fault-is 3 h (simp (s, a))) (eqb-false 3 0 refl)
@@ -71,7 +72,8 @@ module _ (rest : List ℕ) where
       event-good (suc (getD ns 0 0)) (getD ns 1 0) (getD ns 2 0) (fault-is 0 h (simp (s, b))) (simp s) ∙ sym (send-is _ ns ∙ simp b))
       (either (badSend ns))
 
-  line-arrive : placeOf 10 rest < length rest → startsWith sendKey (firstLine rest) ≡ false → startsWith arriveKey (firstLine rest) ≡ true
+  line-arrive : placeOf 10 rest < length rest → startsWith sendKey (firstLine rest) ≡ false
+      → startsWith arriveKey (firstLine rest) ≡ true
       → eventAt rest ≡ arriveEvent (number (after arriveKey (firstLine rest))) (suc (placeOf 10 rest))
   unfolding eventFault refuse eventIn eventNumbers arriveEvent
   line-arrive h s a =
@@ -97,7 +99,8 @@ module _ (rest : List ℕ) where
 
 -- ---- what was said of the key of a line that ends at its LF
 
-module _ (rest : List ℕ) (end : ℕ) (place : end ≡ placeOf 10 rest) (key : List ℕ) (said : Bool) (s : said ≡ startsWith key (take end rest)) where
+module _ (rest : List ℕ) (end : ℕ) (place : end ≡ placeOf 10 rest) (key : List ℕ) (said : Bool)
+    (s : said ≡ startsWith key (take end rest)) where
   pub key-not : said ≡ false → startsWith key (firstLine rest) ≡ false
   unfolding firstLine
   key-not h = rw (← place) (sym s ∙ h)

@@ -18,7 +18,8 @@ key-written key line v h e = ap (λ (t : List ℕ). key ++ t) e ∙ sym (starts-
 -- ---- texts made of numbers
 
 -- a byte that is in none of the texts, nor in those behind them
-pub map-without : {A : Type 0} (c : ℕ) (f : A → List ℕ) (xs : List A) (ls : List (List ℕ)) → ((x : A) → Without c (f x)) → AllWithout c ls
+pub map-without : {A : Type 0} (c : ℕ) (f : A → List ℕ) (xs : List A) (ls : List (List ℕ))
+    → ((x : A) → Without c (f x)) → AllWithout c ls
     → AllWithout c (map f xs ++ ls)
 map-without c f [] ls w r = r
 map-without c f (x ∷ xs) ls w r = more (w x) (map-without c f xs ls w r)
@@ -39,7 +40,8 @@ split-commas write [] h f = absurd (f refl)
 split-commas write (n ∷ ns) h f = split-join 44 (write n) (map write ns) (texts-without 44 write (n ∷ ns) h)
 
 -- good texts that are read are written again, and good numbers that are written are read again
-pub map-again : {A B : Type 0} (f : A → B) (g : B → A) (key : A → ℕ) (bad : ℕ → Bool) → ((x : A) → bad (key x) ≡ false → g (f x) ≡ x)
+pub map-again : {A B : Type 0} (f : A → B) (g : B → A) (key : A → ℕ) (bad : ℕ → Bool)
+    → ((x : A) → bad (key x) ≡ false → g (f x) ≡ x)
     → (xs : List A) → some bad (map key xs) ≡ false → map g (map f xs) ≡ xs
 map-again f g key bad e [] h = refl
 map-again f g key bad e (x ∷ xs) h = let p = none-parts bad (key x) (map key xs) h in cc (e x (p .0), map-again f g key bad e xs (p .1))

@@ -1,4 +1,5 @@
--- What the functions of this crate compute: a line at the start of the rest of a file, its fault, and what it says where it has none. Definitions only.
+-- What the functions of this crate compute: a line at the start of the rest of a file, its fault, and what it says where it has none.
+-- Definitions only.
 use Prim.Native.Nat.{ℕ, suc, _-_}
 use mathlib.Core.Bool.{Bool, false, not, _||_, cond}
 use mathlib.Core.List.{List}
@@ -15,7 +16,7 @@ use Rattle.lines.specs.declared.entries.Entries.{Entries}
 use Rattle.lines.specs.declared.events.EventField.{EventField}
 use Rattle.lines.specs.declared.events.Triple.{Triple}
 
--- ---- the line at the start of a text
+-- ---- the first line of a text
 
 -- the line up to its LF
 unfoldable pub firstLine : List ℕ → List ℕ

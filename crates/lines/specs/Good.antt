@@ -10,12 +10,12 @@ pub record GoodGroup (n s : ℕ) : Type 0 where
   pub some : s ≡ 0 → ⊥
   pub below : s < 2 ^ n
 
--- parents of n units: `build`, or for each unit a unit or a root
+-- parents of n units: `build`, or n entries, each a unit or a root's
 abbrev pub GoodParents : ℕ → Parents → Type 0
 GoodParents n Build = Unit {0}
 GoodParents n (Drawn ps) = (length ps ≡ n) × ((u : ℕ) → u < n → (getD ps u 255 ≡ 255) ⊎ (getD ps u 255 < n))
 
--- an event: source+1 is at most 65,535, as is every other number
+-- an event: source+1 fits 16 bits, as does every other number
 abbrev pub GoodEvent : Event → Type 0
 GoodEvent (Send s g w) = (s < 65535) × (g < 65536) × (w < 65536)
 GoodEvent (Arrive h) = h < 65536

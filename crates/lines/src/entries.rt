@@ -1,4 +1,4 @@
-// The line `parents=`: the word `build`, or an entry for each unit with commas between them.
+// The line `parents=`: `build` alone, or an entry for each unit with commas between them.
 use crate::counted;
 use crate::either;
 use crate::fields::line_end;

@@ -9,7 +9,8 @@ ghost use mathlib.Core.List.{foldl};
 ghost use Rattle.lines.specs.Lines.{numbersIn};
 ghost use Rattle.lines.specs.Fields.{noNumbers, withNumber, eventAt, sendEvent, arriveEvent, noEvent};
 
-// What the line says: document 01's number for its fault or 0; how many bytes it takes with its LF; its three numbers. Beside a fault all are 0.
+// What the line says: document 01's number for its fault or 0; how many bytes it takes with its LF; its three numbers. Beside a fault all
+// are 0.
 pub struct EventField {
     pub fault: u8,
     pub used: usize,

@@ -10,7 +10,8 @@ ghost use mathlib.Core.List.{foldl};
 ghost use Rattle.lines.specs.Lines.{numbersIn, groupFault, groupIn};
 ghost use Rattle.lines.specs.Fields.{noMembers, withMember, membersFault, fieldAt};
 
-// What the members so far say: whether one is badly written; whether one is no unit; whether one does not rise; the least that the next may be; their set.
+// What the members so far say: whether one is badly written; whether one is no unit; whether one does not rise; the least that the next may
+// be; their set.
 pub struct Members {
     pub bad: bool,
     pub outside: bool,

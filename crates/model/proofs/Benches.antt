@@ -1,5 +1,6 @@
--- What document 01's wrong turns get wrong, and refusals in checking order, hold of the rules by computation. A group is written as its number: {0,3}
--- is 9. P1 to P10 are one table in the crate worked_examples.
+-- What document 01's wrong turns get wrong, and refusals in checking order, all by computation from the rules. A group is written as its
+-- number:
+-- {0,3} is 9. The table of P1 to P10 is in the crate worked_examples.
 use mathlib.Core.Path.{_≡_, refl}
 use mathlib.Core.Bool.{false}
 use Prim.Native.Nat.{ℕ}
@@ -14,8 +15,8 @@ use Rattle.model.specs.Network.{messagesOf, sumOf, bit, Plan, groupOf, p
 use Rattle.model.specs.Network.{messageAt, hopAt, logOf, hopsOf, isOut, isHeld, isTaken, withState, setState, isPair, countHops}
 use Rattle.model.specs.Network.{pairCount, newHop, made}
 use Rattle.model.specs.Rules.{Answer, Refused, Sent, Repeat, Held, Taken, refuse, refused, answerOf, routeTotal, send, push, rising}
-use Rattle.model.specs.Rules.{childrenOn, forward, logged, takeHop, lower, lowestUntaken, placeOf, isHeldAt, nextHeld, tally, settle}
-use Rattle.model.specs.Rules.{hold, arrive, allTaken, quiescent}
+use Rattle.model.specs.Rules.{childrenOn, forward, logged, takeHop, lower, lowestUntaken, placeOf, isHeldAt, nextHeld, tally}
+use Rattle.model.specs.Rules.{settle, hold, arrive, allTaken, quiescent}
 use Rattle.model.specs.Calls.{Call, Send, Arrive, call, Answered, answered, recorded, step, runFrom, run, networkOf, historyOf}
 use Rattle.model.specs.Calls.{LogRefused, Log, log, RestRefused, Rest, rest}
 
@@ -25,7 +26,12 @@ single-unit = record { units = 1; count = 1; groups = 1 ∷ []; parents = replic
 
 -- bench C, drawn as P4
 abbrev pub bench-C : Plan
-bench-C = record { units = 4; count = 4; groups = 9 ∷ 3 ∷ 12 ∷ 6 ∷ []; parents = (255 ∷ 2 ∷ 0 ∷ 2 ∷ []) ++ replicate 28 255 }
+bench-C = record {
+  units = 4;
+  count = 4;
+  groups = 9 ∷ 3 ∷ 12 ∷ 6 ∷ [];
+  parents = (255 ∷ 2 ∷ 0 ∷ 2 ∷ []) ++ replicate 28 255;
+}
 
 -- P1's groups {0,1,3} and {1,2,3} and its built forest: unit 1 has three children, two of them on the first group's route
 abbrev pub three-children : Plan
@@ -67,7 +73,8 @@ pub record Benches : Type 0 where
   -- unit 2 carries message 1 and does not log it
   pub carrier-log : log bench-C 2 6400 (networkOf (run bench-C (sends 3 0 500 ∷ arrives 0 ∷ arrives 1 ∷ []))) ≡ Log []
   -- sequence numbers count by pair: one source, two receivers
-  pub by-pair : map (λ h. h .sequence) (hopsOf (networkOf (run bench-C (sends 3 0 1 ∷ sends 3 2 2 ∷ sends 3 0 3 ∷ [])))) ≡ 1 ∷ 1 ∷ 2 ∷ []
+  pub by-pair : map (λ h. h .sequence) (hopsOf (networkOf (run bench-C (sends 3 0 1 ∷ sends 3 2 2 ∷ sends 3 0 3 ∷ []))))
+      ≡ 1 ∷ 1 ∷ 2 ∷ []
   -- one source, one group: the second message waits for the first, and the log has the sent order; a held and a taken hop are repeats
   pub order-answers : answers single-unit two ≡ Sent 1 ∷ Sent 2 ∷ Held ∷ Repeat ∷ Taken 2 ∷ Repeat ∷ []
   pub order-log : log single-unit 0 6400 (networkOf (run single-unit two)) ≡ Log (1 ∷ 2 ∷ [])
@@ -79,7 +86,7 @@ pub record Benches : Type 0 where
   -- refused in checking order; a list too short comes before everything else
   pub refusals : answers bench-C (Send 4 9 0 1999 ∷ sends 0 4 0 ∷ arrives 0 ∷ Arrive 0 1999 6400 ∷ Arrive 0 2000 6399 ∷ [])
       ≡ Refused 1 ∷ Refused 13 ∷ Refused 16 ∷ Refused 1 ∷ Refused 1 ∷ []
-  -- 200 messages have been sent
+  -- 200 messages, and one more
   pub too-many : answerOf (send single-unit 0 0 7 (after-sends 200 0)) ≡ Refused 14
   -- 62 times 32 and 17 are 2,001
   pub too-far : answerOf (send star 0 1 7 (after-sends 62 0)) ≡ Refused 15

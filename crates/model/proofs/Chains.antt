@@ -28,7 +28,8 @@ Low R d k a b = R a b × (d a < k) × (d b < k)
 abbrev Trimmed : (R : ℕ → ℕ → Type 0) (d : ℕ → ℕ) → ℕ → ℕ → ℕ → Type 0
 Trimmed R d k a c = R a c ⊎ ((x y : ℕ) × R a x × (d x < k) × Walk (Low R d k) x y × (d y < k) × R y c)
 
-module _ (R : ℕ → ℕ → Type 0) (d : ℕ → ℕ) (trans : (a b c : ℕ) → R a b → R b c → d a ≤ d b → d c ≤ d b → R a c) where
+module _ (R : ℕ → ℕ → Type 0) (d : ℕ → ℕ) (trans : (a b c : ℕ) → R a b → R b c → d a ≤ d b
+    → d c ≤ d b → R a c) where
   -- a step to a number less deep than k in front
   extend : (k a b c : ℕ) → R a b → d b < k → Trimmed R d k b c → Trimmed R d k a c
   extend k a b c s l (inl t) = inr (b, b, s, l, stop refl, l, t)

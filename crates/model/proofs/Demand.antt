@@ -78,7 +78,8 @@ before-enumerate i (y ∷ ms) a b (first e m) =
 before-enumerate i (y ∷ ms) a b (later p) = before-enumerate (suc i) ms a b p
 
 -- every number of the table is listed
-enumerate-has : (i : ℕ) (ms : List Message) (k : ℕ) → k < length ms → (x : SentMessage) × In x (enumerate i ms) × (x .number ≡ i + k)
+enumerate-has : (i : ℕ) (ms : List Message) (k : ℕ) → k < length ms → (x : SentMessage) × In x (enumerate i ms)
+    × (x .number ≡ i + k)
 unfolding enumerate numberedAs
 enumerate-has i [] k b = absurd (not-suc-le-zero b)
 enumerate-has i (y ∷ ms) zero b = (numberedAs i y, here refl, omega arith)
@@ -189,7 +190,8 @@ module _ (P : Plan) (forest : Forest P) (T ms : List Message) (hs : List Hop) (l
       let on = own-route i b in
       ⊎-elim
       (λ (t : isTaken h ≡ true). le-of-eq (sym (cond-true (isTaken h) 1 _ t)))
-      (λ (t : isTaken h ≡ false). le-trans (subtree-positive (P .parents) _ (h .receiver) (route-unit (P .parents) _ (h .receiver) on) on)
+      (λ (t : isTaken h ≡ false). le-trans (subtree-positive (P .parents) _ (h .receiver)
+      (route-unit (P .parents) _ (h .receiver) on) on)
       (le-of-eq (sym (cond-false (isTaken h) 1 _ t))))
       (either (isTaken h))
 
@@ -202,7 +204,8 @@ module _ (P : Plan) (forest : Forest P) (T ms : List Message) (hs : List Hop) (l
       (pair-ends s r (hopAt hs j) (c .pair) .1) (K .flow .marks j (c .within) .done (all-taken hs t j (c .within))))
 
   -- so every unit of a route took the message
-  route-taken : allTaken hs ≡ true → (m : ℕ) → In m (mail H) → (k u : ℕ) → S .depth u < k → S .on m u ≡ true → In m (taken H u)
+  route-taken : allTaken hs ≡ true → (m : ℕ) → In m (mail H) → (k u : ℕ) → S .depth u < k
+      → S .on m u ≡ true → In m (taken H u)
   route-taken t m i zero u l on = absurd (not-suc-le-zero l)
   route-taken t m i (suc k) u l on = by-cases (ℕ-discrete u (S .primary m))
       (λ e. subst (λ (x : ℕ). In m (taken H x)) (sym e) (queue-taken t (S .source m) (S .primary m) m (queued-sent S H i)))
@@ -218,7 +221,8 @@ module _ (P : Plan) (forest : Forest P) (T ms : List Message) (hs : List Hop) (l
   sender-unit m r i on = by-cases (ℕ-discrete r (S .primary m))
       (λ e. let n = numbered m i in
       lt-of-lt-of-le (subst (λ (x : ℕ). x < P .units) (sym (sender-first S m r e)) (K .admitted .sources m (n .0) (n .1))) (forest .few))
-      (λ n. subst (λ (x : ℕ). x < 32) (sym (sender-below S m r n)) (route-unit (P .parents) _ (S .parent r) (forest .parent-on _ r on n)))
+      (λ n. subst (λ (x : ℕ). x < 32) (sym (sender-below S m r n))
+      (route-unit (P .parents) _ (S .parent r) (forest .parent-on _ r on n)))
 
   record-within : length hs ≤ 2000 → (j : ℕ) → j < length hs → HopWithin ms (hopAt hs j)
   unfolding H Numbered AllHops routeOf
@@ -261,7 +265,8 @@ module _ (P : Plan) (forest : Forest P) (T ms : List Message) (hs : List Hop) (l
 
     -- a listed message is the table's
     listed-message : (x : SentMessage) → Listed 1 ms x
-        → (1 ≤ x .number) × (x .number ≤ length ms) × (x .source ≡ messageAt T (x .number) .source) × (x .group ≡ messageAt T (x .number) .group)
+        → (1 ≤ x .number) × (x .number ≤ length ms) × (x .source ≡ messageAt T (x .number) .source)
+        × (x .group ≡ messageAt T (x .number) .group)
     unfolding numberedAs
     listed-message x L =
         let to : x .number ≤ length ms = omega (arith, L .to) in
@@ -308,9 +313,11 @@ module _ (P : Plan) (forest : Forest P) (T ms : List Message) (hs : List Hop) (l
 
     sum-rest : takenTotal past ≡ sentTotal P (sent past) → quiescent (network ms hs ls) ≡ true
     unfolding quiescent hopsOf
-    sum-rest e = taken-all hs (le-trans (sum-least (potential P forest T) hs potential-some) (le-of-eq (sym (sym takes ∙ e ∙ sent-total))))
+    sum-rest e = taken-all hs (le-trans (sum-least (potential P forest T) hs potential-some)
+        (le-of-eq (sym (sym takes ∙ e ∙ sent-total))))
 
-    log-complete : quiescent (network ms hs ls) ≡ true → (x : SentMessage) → In x (sent past) → (u : ℕ) → member (groupOf P (x .group)) u ≡ true
+    log-complete : quiescent (network ms hs ls) ≡ true → (x : SentMessage) → In x (sent past) → (u : ℕ)
+        → member (groupOf P (x .group)) u ≡ true
         → In (x .number) (logOf u (network ms hs ls))
     unfolding quiescent hopsOf H addressed
     log-complete t x i u at =

@@ -58,9 +58,11 @@ queued-forward v m [] d a b hs = nothing (eqb v a) (queued a b hs)
 queued-forward v m (c ∷ cs) (adds n d) a b hs =
     queued-forward v m cs d a b (made v c m hs)
     ∙ ap (push (eqb v a && has b cs) m) (queued-snoc a b hs (newHop v c m hs))
-    ∙ merge (eqb v a) (eqb c b) (has b cs) (queued a b hs) (λ p q. n (subst (λ (x : ℕ). In x cs) (sym (eqb-true c b p)) (has-in b cs q)))
+    ∙ merge (eqb v a) (eqb c b) (has b cs) (queued a b hs) (λ p q. n
+    (subst (λ (x : ℕ). In x cs) (sym (eqb-true c b p)) (has-in b cs q)))
   where
-    merge : (t p q : Bool) (l : List ℕ) → (p ≡ true → q ≡ true → ⊥) → push (t && q) m (push (t && p) m l) ≡ push (t && (p || q)) m l
+    merge : (t p q : Bool) (l : List ℕ) → (p ≡ true → q ≡ true → ⊥)
+        → push (t && q) m (push (t && p) m l) ≡ push (t && (p || q)) m l
     merge true true true l f = absurd (f refl refl)
     merge true true false l f = refl
     merge true false true l f = refl
@@ -75,7 +77,8 @@ module _ (P : Plan) (acyclic : Acyclic (P .parents)) (T : List Message) where
   unfolding routeOf
   route-parent m u h = depth-parent (P .parents) acyclic u (route-unit (P .parents) _ u h)
 
-  pub route-primary : (m u : ℕ) → member (routeOf P (messageAt T m .group)) u ≡ true → (u ≡ primaryOf P (messageAt T m .group) → ⊥)
+  pub route-primary : (m u : ℕ) → member (routeOf P (messageAt T m .group)) u ≡ true
+      → (u ≡ primaryOf P (messageAt T m .group) → ⊥)
       → depth (P .parents) (primaryOf P (messageAt T m .group)) < depth (P .parents) u
   unfolding routeOf primaryOf
   route-primary m u h n = depth-primary (P .parents) acyclic _ u h n
@@ -111,7 +114,8 @@ module _ (P : Plan) (acyclic : Acyclic (P .parents)) (T : List Message) where
       → In (hopAt hs i .message) (queue schemeOf H s r)
   hop-queue {hs = hs} F s r i b p = subst (λ (l : List ℕ). In (hopAt hs i .message) l) (F .queues s r) (queued-in s r hs i b p)
 
-  pub queue-hop : {H : History} {hs : List Hop} → Flow H hs → (s r m : ℕ) → In m (queue schemeOf H s r) → (i : ℕ) × Carries s r m hs i
+  pub queue-hop : {H : History} {hs : List Hop} → Flow H hs → (s r m : ℕ) → In m (queue schemeOf H s r)
+      → (i : ℕ) × Carries s r m hs i
   queue-hop {hs = hs} F s r m q = in-queued s r m hs (subst (λ (l : List ℕ). In m l) (sym (F .queues s r)) q)
 
   pub flow-start : Flow start []
@@ -168,7 +172,8 @@ module _ (P : Plan) (acyclic : Acyclic (P .parents)) (T : List Message) where
     -- a hop from a to r with message m is hop j
     same-hop : (i a : ℕ) → Carries a r m hs i → i ≡ j
     same-hop i a c =
-        let q : In m (queue S H a r) = subst (λ (x : ℕ). In x (queue S H a r)) (c .message-is) (hop-queue F a r i (c .within) (c .pair)) in
+        let q : In m (queue S H a r) = subst (λ (x : ℕ). In x (queue S H a r)) (c .message-is)
+        (hop-queue F a r i (c .within) (c .pair)) in
         let c′ : Carries s r m hs i =
         subst (λ (x : ℕ). Carries x r m hs i) (sym (queue-sender S H a r q) ∙ queue-sender S H s r waiting) c in
         let once = subst (λ (l : List ℕ). Distinct l) (sym (F .queues s r)) (queue-distinct S (F .legal) s r) in
@@ -255,7 +260,8 @@ module _ (P : Plan) (acyclic : Acyclic (P .parents)) (T : List Message) where
         }
 
     pub flow-taken : Flow (took (hopAt hs j .message) r H)
-        (forward r (hopAt hs j .message) (childrenOn (P .parents) (routeOf P (messageAt T (hopAt hs j .message) .group)) r) (setState j 2 hs))
+        (forward r (hopAt hs j .message) (childrenOn (P .parents) (routeOf P (messageAt T (hopAt hs j .message) .group)) r)
+        (setState j 2 hs))
     unfolding m cs
     flow-taken = record {
       legal = legal-took (F .legal) s waiting untaken older;

@@ -87,7 +87,8 @@ sum-state f zero k (h ∷ hs) b = omega arith
 sum-state f (suc j) k (h ∷ hs) b = omega (arith, sum-state f j k hs (le-of-suc-le-suc b))
 
 -- the hops made for the units cs add what f says of each
-pub sum-forward : (f : Hop → ℕ) (g : ℕ → ℕ) (v m : ℕ) (cs : List ℕ) (hs : List Hop) → ((c : ℕ) (l : List Hop) → f (newHop v c m l) ≡ g c)
+pub sum-forward : (f : Hop → ℕ) (g : ℕ → ℕ) (v m : ℕ) (cs : List ℕ) (hs : List Hop)
+    → ((c : ℕ) (l : List Hop) → f (newHop v c m l) ≡ g c)
     → sumOf f (forward v m cs hs) ≡ sumOf f hs + sumOf g cs
 unfolding forward made sumOf
 sum-forward f g v m [] hs new = omega arith
@@ -104,7 +105,8 @@ unfolding countHops
 count-state t j k hs b = sum-state (λ h. bit (t h)) j k hs b
 
 -- hops that fail the test add nothing
-pub count-forward : (t : Hop → Bool) (v m : ℕ) (cs : List ℕ) (hs : List Hop) → ((c : ℕ) (l : List Hop) → t (newHop v c m l) ≡ false)
+pub count-forward : (t : Hop → Bool) (v m : ℕ) (cs : List ℕ) (hs : List Hop)
+    → ((c : ℕ) (l : List Hop) → t (newHop v c m l) ≡ false)
     → countHops t (forward v m cs hs) ≡ countHops t hs
 unfolding forward made bit
 count-forward t v m [] hs none = refl
@@ -145,7 +147,8 @@ queued-state s r j k [] = refl
 queued-state s r zero k (h ∷ hs) = refl
 queued-state s r (suc j) k (h ∷ hs) = ap (λ (l : List ℕ). l ++ push (isPair s r h) (h .message) []) (queued-state s r j k hs)
 
-pub queued-in : (s r : ℕ) (hs : List Hop) (i : ℕ) → i < length hs → isPair s r (hopAt hs i) ≡ true → In (hopAt hs i .message) (queued s r hs)
+pub queued-in : (s r : ℕ) (hs : List Hop) (i : ℕ) → i < length hs → isPair s r (hopAt hs i) ≡ true
+    → In (hopAt hs i .message) (queued s r hs)
 unfolding queued hopAt push
 queued-in s r [] i b p = absurd (not-suc-le-zero b)
 queued-in s r (h ∷ hs) zero b p = in-append-right (queued s r hs) (rw p (here refl))
@@ -162,7 +165,8 @@ unfolding hopAt
 carries-later h c = record { within = omega (arith, c .within); pair = c .pair; message-is = c .message-is }
 
 -- the only message that one hop adds
-pushed : (s r m : ℕ) (h : Hop) (hs : List Hop) (b : Bool) → isPair s r h ≡ b → In m (push b (h .message) []) → Carries s r m (h ∷ hs) zero
+pushed : (s r m : ℕ) (h : Hop) (hs : List Hop) (b : Bool) → isPair s r h ≡ b → In m (push b (h .message) [])
+    → Carries s r m (h ∷ hs) zero
 unfolding hopAt push
 pushed s r m h hs true e (here q) = record { within = zero-lt-suc (length hs); pair = e; message-is = sym q }
 pushed s r m h hs true e (there i) = elim i [ ]
@@ -177,11 +181,18 @@ in-queued s r m (h ∷ hs) i = ⊎-elim
     (in-append-cases (queued s r hs) _ i)
 
 -- of two messages of a queue the newer one's hop was made later
-pub before-queued : (s r a b : ℕ) (hs : List Hop) → Before a b (queued s r hs) → (i j : ℕ) × (i < j) × Carries s r b hs i × Carries s r a hs j
+pub before-queued : (s r a b : ℕ) (hs : List Hop) → Before a b (queued s r hs)
+    → (i j : ℕ) × (i < j) × Carries s r b hs i × Carries s r a hs j
 unfolding queued push
 before-queued s r a b [] p = elim p [ ]
 before-queued s r a b (h ∷ hs) p = ⊎-elim
-    (λ q. let c = before-queued s r a b hs q in (suc (c .0), suc (c .1), omega (arith, c .2), carries-later h (c .3), carries-later h (c .4)))
+    (λ q. let c = before-queued s r a b hs q in (
+      suc (c .0),
+      suc (c .1),
+      omega (arith, c .2),
+      carries-later h (c .3),
+      carries-later h (c .4),
+    ))
     (λ q. ⊎-elim
     (λ t. let c = in-queued s r a hs (t .0) in
     (zero, suc (c .0), zero-lt-suc (c .0), pushed s r b h hs (isPair s r h) refl (t .1), carries-later h (c .1)))
@@ -194,7 +205,8 @@ before-queued s r a b (h ∷ hs) p = ⊎-elim
     alone false y t = elim t [ ]
 
 -- no message stands in a queue for two hops
-pub queued-once : (s r m : ℕ) (hs : List Hop) → Distinct (queued s r hs) → (i j : ℕ) → i < j → Carries s r m hs i → Carries s r m hs j → ⊥
+pub queued-once : (s r m : ℕ) (hs : List Hop) → Distinct (queued s r hs) → (i j : ℕ) → i < j → Carries s r m hs i
+    → Carries s r m hs j → ⊥
 unfolding queued hopAt push
 queued-once s r m [] d i j l c e = absurd (not-suc-le-zero (c .within))
 queued-once s r m (h ∷ hs) d zero zero l c e = absurd (omega arith)

@@ -1,5 +1,5 @@
--- Pairs of which nothing is to be taken: kept by making hops, and by other pairs' changes; the count of held hops falls with each copy taken.
--- Assumes nothing.
+-- Pairs of which nothing is to be taken: kept by making hops, and by other pairs' changes; the count of held hops falls with each copy
+-- taken. Assumes nothing.
 use mathlib.Core.Path.{_≡_, refl, sym, ap, subst, _∙_}
 use mathlib.Core.Logic.{by-cases}
 use mathlib.Core.Bool.{Bool, true, false, _&&_, and-false}
@@ -51,7 +51,8 @@ unfolding made newHop isHeld
 next-made s r a b m hs j N =
     let x : Hop = newHop a b m hs in
     by-cases (decLt j (length hs))
-    (λ c. next-along s r hs (hs ++ x ∷ []) j N c (hop-old hs x j c) (λ i l p. hop-old hs x i (let z : i < length hs = omega arith in z)))
+    (λ c. next-along s r hs (hs ++ x ∷ []) j N c (hop-old hs x j c)
+    (λ i l p. hop-old hs x i (let z : i < length hs = omega arith in z)))
     (λ c. let e : j ≡ length hs = omega (arith, N .within, length-snoc hs x) in
     absurd (clash (subst (λ (h : Hop). isHeld h ≡ true) (ap (hopAt (hs ++ x ∷ [])) e ∙ hop-new hs x) (N .held)) refl))
 
@@ -61,7 +62,8 @@ next-forward s r v m [] hs j N = N
 next-forward s r v m (c ∷ cs) hs j N = next-made s r v c m hs j (next-forward s r v m cs (made v c m hs) j N)
 
 -- another pair's hop has another state
-next-state : (s r i k : ℕ) (hs : List Hop) → isPair s r (hopAt hs i) ≡ false → (j : ℕ) → Next s r (setState i k hs) j → Next s r hs j
+next-state : (s r i k : ℕ) (hs : List Hop) → isPair s r (hopAt hs i) ≡ false → (j : ℕ)
+    → Next s r (setState i k hs) j → Next s r hs j
 unfolding withState isPair
 next-state s r i k hs apart j N =
     let within : j < length hs = subst (λ (n : ℕ). j < n) (length-state i k hs) (N .within) in
@@ -83,7 +85,8 @@ idle-forward v m cs hs s r idle j N = idle j (next-forward s r v m cs hs j N)
 unfoldable pub OthersIdle : List Hop → ℕ → ℕ → Type 0
 OthersIdle hs s r = (a b : ℕ) → (a ≡ s → b ≡ r → ⊥) → Idle hs a b
 
-pub others-state : (hs : List Hop) (s r i k : ℕ) → isPair s r (hopAt hs i) ≡ true → OthersIdle hs s r → OthersIdle (setState i k hs) s r
+pub others-state : (hs : List Hop) (s r i k : ℕ) → isPair s r (hopAt hs i) ≡ true → OthersIdle hs s r
+    → OthersIdle (setState i k hs) s r
 unfolding OthersIdle Idle
 others-state hs s r i k p others a b n j N =
     others a b n j (next-state a b i k hs (not-true-false (isPair a b (hopAt hs i)) (λ q.

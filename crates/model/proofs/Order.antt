@@ -84,7 +84,8 @@ module _ (S : Scheme) where
       (λ (t, e). let (f, p) = passes-true n v s u t in inl (e, f, subst (λ (x : ℕ). Passes x s u) (sym e) p)) inr
       (in-push-cases (eqb v s && passes S n v u) n (queue S H s u) i)
 
-  taken-cases : {m : ℕ} (n v : ℕ) (H : History) (u : ℕ) → In m (taken (took n v H) u) → ((m ≡ n) × (v ≡ u)) ⊎ In m (taken H u)
+  taken-cases : {m : ℕ} (n v : ℕ) (H : History) (u : ℕ) → In m (taken (took n v H) u)
+      → ((m ≡ n) × (v ≡ u)) ⊎ In m (taken H u)
   unfolding taken
   taken-cases n v H u i = ⊎-elim (λ (t, e). inl (e, eqb-true v u t)) inr (in-push-cases (eqb v u) n (taken H u) i)
 
@@ -92,7 +93,8 @@ module _ (S : Scheme) where
   pub queue-sender : {m : ℕ} (H : History) (s u : ℕ) → In m (queue S H s u) → sender S m u ≡ s
   unfolding queue
   queue-sender start s u i = absurd (in-none i)
-  queue-sender {m} (sent n H) s u i = ⊎-elim (λ (e, f, p). sender-first m u (sym p) ∙ f) (queue-sender H s u) (queue-sent-cases n H s u i)
+  queue-sender {m} (sent n H) s u i = ⊎-elim (λ (e, f, p). sender-first m u (sym p) ∙ f) (queue-sender H s u)
+      (queue-sent-cases n H s u i)
   queue-sender {m} (took n v H) s u i = ⊎-elim
       (λ (e, f, p). sender-below m u (p .below) ∙ p .parent-is) (queue-sender H s u) (queue-took-cases n v H s u i)
 
@@ -183,7 +185,8 @@ module _ (S : Scheme) where
   not-own-parent m u o e = lt-irrefl (S .depth u) (rw e at (S .parent-falls m u o))
 
   -- a unit takes the messages of a queue in its order
-  pub fifo : {b a : ℕ} {H : History} → Legal S H → (s u : ℕ) → Before b a (queue S H s u) → In b (taken H u) → Before b a (taken H u)
+  pub fifo : {b a : ℕ} {H : History} → Legal S H → (s u : ℕ) → Before b a (queue S H s u) → In b (taken H u)
+      → Before b a (taken H u)
   unfolding queue taken
   fifo legal-start s u p i = absurd (before-none p)
   fifo (legal-sent {m = n} {H = H} L fresh o) s u p i = ⊎-elim
@@ -206,7 +209,8 @@ module _ (S : Scheme) where
       (before-took-cases n v H s u p)
 
   -- a sender forwards in the order in which it took
-  forwarded-order : {b a : ℕ} (H : History) (s u : ℕ) → Before b a (queue S H s u) → (u ≡ S .primary a → ⊥) → (u ≡ S .primary b → ⊥)
+  forwarded-order : {b a : ℕ} (H : History) (s u : ℕ) → Before b a (queue S H s u) → (u ≡ S .primary a → ⊥)
+      → (u ≡ S .primary b → ⊥)
       → Before b a (taken H s)
   unfolding queue taken
   forwarded-order start s u p n k = absurd (before-none p)

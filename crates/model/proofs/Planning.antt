@@ -4,25 +4,17 @@ use mathlib.Core.Bool.{true}
 use mathlib.Core.List.{List}
 use Prim.Native.Nat.{ℕ, _≤_, _<_}
 use native.Mathlib.Omega.{arith}
-use borrow.Author.Tests.{lt-ltb}
 use lib.ListN.{getD}
-use lib.Dec.{ltb}
 use Rattle.sets.specs.Sets.{member}
-use Rattle.sets.proofs.Bools.{cond-true}
-use Rattle.layout.proofs.Tables.{getD-tabulate}
 use Rattle.forest.specs.Forest.{primary, route}
-use Rattle.forest.specs.Calls.{countedAt, counted, buildRefusal, checkRefusal}
+use Rattle.forest.specs.Calls.{counted, buildRefusal, checkRefusal}
 use Rattle.forest.specs.Claims.{AcceptedForest}
 use Rattle.forest.proofs.Primaries.{parent-on-route}
+use Rattle.forest.proofs.Shared.{counted-group}
 use Rattle.forest.proofs.Theorems.{GoodGroups, groups-good, check-accepted, build-forest}
 use Rattle.model.specs.Network.{Plan, groupOf, primaryOf, routeOf}
 use Rattle.model.specs.Demand3.{Planned, built, checked}
 use Rattle.model.proofs.Sound.{Forest}
-
-counted-group : (c : ℕ) (gs : List ℕ) (g : ℕ) → c ≤ 24 → g < c → getD (counted c gs) g 0 ≡ getD gs g 0
-unfolding counted countedAt
-counted-group c gs g few b =
-    getD-tabulate 24 (countedAt c gs) g 0 (let z : g < 24 = omega arith in z) ∙ cond-true (ltb g c) (getD gs g 0) 0 (lt-ltb g c b)
 
 -- the parents ps are an accepted forest for the plan's units and groups
 abbrev AcceptedFor : Plan → List ℕ → Type 0

@@ -15,8 +15,8 @@ use lib.Dec.{eqb, ltb, leb}
 use Rattle.sets.proofs.Bools.{either, clash, and-left, and-right, and-both, not-true-false}
 use Rattle.model.specs.declared.Hop.{Hop}
 use Rattle.model.specs.declared.Message.{Message}
-use Rattle.model.specs.Network.{Plan, routeSizeOf, Network, network, fresh, hopAt, hopsOf, isOut, isHeld, isTaken, withState, setState}
-use Rattle.model.specs.Network.{isPair, sumOf, bit, countHops, pairCount, takenOf, pairTaken, newHop, made}
+use Rattle.model.specs.Network.{Plan, routeSizeOf, Network, network, fresh, hopAt, hopsOf, isOut, isHeld, isTaken, withState}
+use Rattle.model.specs.Network.{setState, isPair, sumOf, bit, countHops, pairCount, takenOf, pairTaken, newHop, made}
 use Rattle.model.specs.Rules.{Outcome, outcome, answerOf, leftOf, refuse, refused, routeTotal, send, push, rising, forward, takeHop}
 use Rattle.model.specs.Rules.{lowestUntaken, isHeldAt, nextHeld, settle, hold, arrive}
 use Rattle.model.specs.Calls.{Call, Send, Arrive, call, answered, Run, ran, recorded, step, runFrom, run, networkOf, historyOf}
@@ -60,14 +60,16 @@ forward-longer v m [] hs = omega arith
 forward-longer v m (c ∷ cs) hs = omega (arith, forward-longer v m cs (made v c m hs), length-snoc hs (newHop v c m hs))
 
 -- what holds of every hop made for a unit of cs holds of every place from the old end on
-pub forward-new : (Q : Hop → Type 0) (v m : ℕ) (cs : List ℕ) (hs : List Hop) → ((c : ℕ) → In c cs → (l : List Hop) → Q (newHop v c m l))
+pub forward-new : (Q : Hop → Type 0) (v m : ℕ) (cs : List ℕ) (hs : List Hop)
+    → ((c : ℕ) → In c cs → (l : List Hop) → Q (newHop v c m l))
     → (i : ℕ) → length hs ≤ i → i < length (forward v m cs hs) → Q (hopAt (forward v m cs hs) i)
 unfolding forward made
 forward-new Q v m [] hs new i l b = absurd (omega arith)
 forward-new Q v m (c ∷ cs) hs new i l b =
     let x : Hop = newHop v c m hs in
     by-cases (ℕ-discrete i (length hs))
-    (λ e. subst Q (sym (forward-old v m cs (made v c m hs) i (omega (arith, length-snoc hs x)) ∙ ap (hopAt (hs ++ x ∷ [])) e ∙ hop-new hs x))
+    (λ e. subst Q (sym (forward-old v m cs (made v c m hs) i (omega (arith, length-snoc hs x))
+    ∙ ap (hopAt (hs ++ x ∷ [])) e ∙ hop-new hs x))
     (new c (here refl) hs))
     (λ n. forward-new Q v m cs (made v c m hs) (λ d p. new d (there p)) i (omega (arith, length-snoc hs x)) b)
 
@@ -111,7 +113,8 @@ taken-first-forward v m (c ∷ cs) hs first = taken-first-forward v m cs (made v
 -- hop j has another state: it stays taken if it was, and is taken only after the pair's older hops
 taken-first-state : (j k : ℕ) (hs : List Hop) → j < length hs → TakenFirst hs
     → (isTaken (hopAt hs j) ≡ true → isTaken (withState k (hopAt hs j)) ≡ true)
-    → (isTaken (withState k (hopAt hs j)) ≡ true → (s r i : ℕ) → i < j → isPair s r (hopAt hs i) ≡ true → isPair s r (hopAt hs j) ≡ true
+    → (isTaken (withState k (hopAt hs j)) ≡ true → (s r i : ℕ) → i < j → isPair s r (hopAt hs i) ≡ true
+    → isPair s r (hopAt hs j) ≡ true
     → isTaken (hopAt hs i) ≡ true) → TakenFirst (setState j k hs)
 unfolding TakenFirst
 taken-first-state j k hs b first keeps older s r i n l within p q t =
@@ -127,7 +130,8 @@ taken-first-state j k hs b first keeps older s r i n l within p q t =
     (λ e. along isTaken (sym (same i e)) (keeps (subst (λ (x : ℕ). isTaken (hopAt hs x) ≡ true) e was)))
     (λ o. along isTaken (sym (state-other j k hs i o)) was))
 
-pub taken-first-hold : (j : ℕ) (hs : List Hop) → j < length hs → isOut (hopAt hs j) ≡ true → TakenFirst hs → TakenFirst (setState j 1 hs)
+pub taken-first-hold : (j : ℕ) (hs : List Hop) → j < length hs → isOut (hopAt hs j) ≡ true → TakenFirst hs
+    → TakenFirst (setState j 1 hs)
 unfolding isTaken withState
 taken-first-hold j hs b out first = taken-first-state j 1 hs b first
     (λ t. absurd (clash t (out-untaken (hopAt hs j) out)))
@@ -217,7 +221,11 @@ unfolding countHops sumOf bit hopAt
 count-front t [] zero none = refl
 count-front t [] (suc j) none = refl
 count-front t (h ∷ hs) zero none =
-    omega (arith, ap bit (none zero (omega arith) (zero-lt-suc (length hs))), count-front t hs zero (λ i l b. none (suc i) (omega arith) (omega arith)))
+    omega (
+      arith,
+      ap bit (none zero (omega arith) (zero-lt-suc (length hs))),
+      count-front t hs zero (λ i l b. none (suc i) (omega arith) (omega arith)),
+    )
 count-front t (h ∷ hs) (suc j) none =
     omega (arith, count-front t hs j (λ i l b. none (suc i) (omega arith) (omega arith)))
 
@@ -234,7 +242,8 @@ equal-taken s r hs e i b p = ⊎-elim (λ t. t)
     (either (isTaken (hopAt hs i)))
 
 pub taken-equal : (s r : ℕ) (hs : List Hop)
-    → ((i : ℕ) → i < length hs → isPair s r (hopAt hs i) ≡ true → isTaken (hopAt hs i) ≡ true) → pairCount s r hs ≡ pairTaken s r hs
+    → ((i : ℕ) → i < length hs → isPair s r (hopAt hs i) ≡ true → isTaken (hopAt hs i) ≡ true)
+    → pairCount s r hs ≡ pairTaken s r hs
 unfolding pairTaken takenOf pairCount
 taken-equal s r hs all = by-cases (decLt (pairTaken s r hs) (pairCount s r hs))
     (λ l. let w = count-fewer (isPair s r) isTaken hs l in absurd (clash (all (w .0) (w .1) (w .2)) (w .3)))
@@ -258,7 +267,8 @@ count-pair-state s r j k hs =
     ap (pairCount s r) (sym (take-all (length hs) (setState j k hs) (omega (arith, length-state j k hs))))
     ∙ pair-state s r j k (length hs) hs ∙ ap (pairCount s r) (take-all (length hs) hs (omega arith))
 
-pub hold-taken : (a b j : ℕ) (hs : List Hop) → j < length hs → isOut (hopAt hs j) ≡ true → pairTaken a b (setState j 1 hs) ≡ pairTaken a b hs
+pub hold-taken : (a b j : ℕ) (hs : List Hop) → j < length hs → isOut (hopAt hs j) ≡ true
+    → pairTaken a b (setState j 1 hs) ≡ pairTaken a b hs
 unfolding pairTaken withState isTaken
 hold-taken a b j hs l out = count-unchanged (takenOf a b) j 1 hs l
     (untaken-of a b (withState 1 (hopAt hs j)) refl ∙ sym (untaken-of a b (hopAt hs j) (out-untaken (hopAt hs j) out)))
@@ -288,7 +298,8 @@ take-taken s r v m cs hs j N =
       ap bit old,
     )
 
-pub take-taken-other : (s r v m : ℕ) (cs : List ℕ) (hs : List Hop) (j : ℕ) → Next s r hs j → (a b : ℕ) → (a ≡ s → b ≡ r → ⊥)
+pub take-taken-other : (s r v m : ℕ) (cs : List ℕ) (hs : List Hop) (j : ℕ) → Next s r hs j → (a b : ℕ)
+    → (a ≡ s → b ≡ r → ⊥)
     → pairTaken a b (forward v m cs (setState j 2 hs)) ≡ pairTaken a b hs
 unfolding pairTaken takenOf withState isPair
 take-taken-other s r v m cs hs j N a b other =
@@ -310,7 +321,8 @@ sum-none f [] none = refl
 sum-none f (x ∷ l) none = omega (arith, none x (here refl), sum-none f l (λ y i. none y (there i)))
 
 -- none of a pair that no hop is made for: another sender's, or a receiver's that is not in cs
-pub forward-count-apart : (a b v m : ℕ) (cs : List ℕ) (hs : List Hop) → Apart a b v cs → pairCount a b (forward v m cs hs) ≡ pairCount a b hs
+pub forward-count-apart : (a b v m : ℕ) (cs : List ℕ) (hs : List Hop) → Apart a b v cs
+    → pairCount a b (forward v m cs hs) ≡ pairCount a b hs
 unfolding Apart isPair newHop bit
 forward-count-apart a b v m cs hs apart = omega (
   arith,
@@ -354,7 +366,8 @@ module _ (s r : ℕ) (hs : List Hop) (num : Numbered hs) (first : TakenFirst hs)
       omega (arith, front-taken, sequence-front, all)
 
 -- hop j is out and becomes held: it is next where its sequence number is one more than the number taken
-pub hold-next : (s r : ℕ) (hs : List Hop) → Numbered hs → TakenFirst hs → (j : ℕ) → j < length hs → isOut (hopAt hs j) ≡ true
+pub hold-next : (s r : ℕ) (hs : List Hop) → Numbered hs → TakenFirst hs → (j : ℕ) → j < length hs
+    → isOut (hopAt hs j) ≡ true
     → isPair s r (hopAt hs j) ≡ true → hopAt hs j .sequence ≡ suc (pairTaken s r hs) → Next s r (setState j 1 hs) j
 unfolding isHeld withState
 hold-next s r hs num first j b out p e = record {
@@ -367,8 +380,10 @@ hold-next s r hs num first j b out p e = record {
 }
 
 -- and else nothing of the pair is, if nothing was
-pub hold-idle : (s r : ℕ) (hs : List Hop) → Numbered hs → TakenFirst hs → (j : ℕ) → j < length hs → isOut (hopAt hs j) ≡ true
-    → isPair s r (hopAt hs j) ≡ true → Idle hs s r → (hopAt hs j .sequence ≡ suc (pairTaken s r hs) → ⊥) → Idle (setState j 1 hs) s r
+pub hold-idle : (s r : ℕ) (hs : List Hop) → Numbered hs → TakenFirst hs → (j : ℕ) → j < length hs
+    → isOut (hopAt hs j) ≡ true
+    → isPair s r (hopAt hs j) ≡ true → Idle hs s r → (hopAt hs j .sequence ≡ suc (pairTaken s r hs) → ⊥)
+    → Idle (setState j 1 hs) s r
 unfolding Idle isTaken withState
 hold-idle s r hs num first j b out p idle differs i N =
     let ks : List Hop = setState j 1 hs in
@@ -400,7 +415,8 @@ module _ (s r v m : ℕ) (cs : List ℕ) (hs : List Hop) (j : ℕ) (N : Next s r
       (N .older i (omega arith) (sym (pair-at s r j 2 hs i) ∙ along (isPair s r) old p))))
 
   -- and from there on they are not
-  after-untaken : TakenFirst hs → (i : ℕ) → j < i → i < length after → isPair s r (hopAt after i) ≡ true → isTaken (hopAt after i) ≡ false
+  after-untaken : TakenFirst hs → (i : ℕ) → j < i → i < length after → isPair s r (hopAt after i) ≡ true
+      → isTaken (hopAt after i) ≡ false
   unfolding TakenFirst isTaken newHop
   after-untaken first i l b p = by-cases (decLt i (length hs))
       (λ c. let old = after-old i c ∙ state-other j 2 hs i (λ d. absurd (omega arith)) in
@@ -428,7 +444,8 @@ module _ (s r v m : ℕ) (cs : List ℕ) (hs : List Hop) (j : ℕ) (N : Next s r
         (λ d. clash (after-taken q (omega arith) (M .pair)) (held-untaken (hopAt after q) (M .held)))))
 
   -- while not all of the pair's hops are taken, one stands after j
-  pub after-some : pairTaken s r after < pairCount s r after → (p : ℕ) × (j < p) × (p < length after) × (isPair s r (hopAt after p) ≡ true)
+  pub after-some : pairTaken s r after < pairCount s r after → (p : ℕ) × (j < p) × (p < length after)
+      × (isPair s r (hopAt after p) ≡ true)
   unfolding pairTaken takenOf pairCount
   after-some l =
       let w = count-fewer (isPair s r) isTaken after l in
@@ -454,7 +471,8 @@ first-send P s g w (network ms hs ls) first =
     taken-first-made s _ (suc (length ms)) hs first))))
 
 module _ (P : Plan) (forest : Forest P) where
-  first-settle : (k s r n : ℕ) (ms : List Message) (hs : List Hop) (ls : List (List ℕ)) → Valid P forest (network ms hs ls) → TakenFirst hs
+  first-settle : (k s r n : ℕ) (ms : List Message) (hs : List Hop) (ls : List (List ℕ))
+      → Valid P forest (network ms hs ls) → TakenFirst hs
       → LeavesFirst (settle k P s r n (network ms hs ls))
   unfolding settle LeavesFirst leftOf hopsOf takeHop
   first-settle zero s r n ms hs ls ok first = first
@@ -508,7 +526,8 @@ pub run-snoc : (P : Plan) (cs : List Call) (c : Call) → run P (cs ++ c ∷ [])
 unfolding run
 run-snoc P cs c = run-from-snoc P cs c (ran fresh [])
 
-pub network-snoc : (P : Plan) (cs : List Call) (c : Call) → networkOf (run P (cs ++ c ∷ [])) ≡ leftOf (call P c (networkOf (run P cs)))
+pub network-snoc : (P : Plan) (cs : List Call) (c : Call) → networkOf (run P (cs ++ c ∷ []))
+    ≡ leftOf (call P c (networkOf (run P cs)))
 network-snoc P cs c = ap networkOf (run-snoc P cs c) ∙ step-network P c (run P cs)
 
 pub history-snoc : (P : Plan) (cs : List Call) (c : Call)
@@ -518,7 +537,8 @@ history-snoc P cs c = ap historyOf (run-snoc P cs c) ∙ step-history P c (run P
 -- ---- after every list of calls hops are numbered, no pair has a copy left to be taken, and a pair's hops are taken in the order made
 
 module _ (P : Plan) (forest : Forest P) where
-  first-step : (c : Call) (r : Run) → KeptRun P forest r → TakenFirst (hopsOf (networkOf r)) → TakenFirst (hopsOf (networkOf (step P c r)))
+  first-step : (c : Call) (r : Run) → KeptRun P forest r → TakenFirst (hopsOf (networkOf r))
+      → TakenFirst (hopsOf (networkOf (step P c r)))
   unfolding KeptRun networkOf LeavesFirst
   first-step c (ran W past) K first = subst (λ (X : Network). TakenFirst (hopsOf X)) (sym (step-network P c (ran W past)))
       (first-call P forest c W (K .valid) first)

@@ -10,14 +10,15 @@ use lib.Dec.{ltb, leb}
 use Rattle.sets.proofs.Bools.{either, clash}
 use Rattle.model.specs.declared.Hop.{Hop}
 use Rattle.model.specs.Network.{Plan, routeSizeOf, Network, network, hopAt, messagesOf, hopsOf, logOf, isOut}
-use Rattle.model.specs.Rules.{Answer, Outcome, answerOf, leftOf, refuse, refused, routeTotal, send, takeHop, nextHeld, tally, settle}
-use Rattle.model.specs.Rules.{hold, arrive, quiescent}
+use Rattle.model.specs.Rules.{Answer, Outcome, answerOf, leftOf, refuse, refused, routeTotal, send, takeHop, nextHeld, tally}
+use Rattle.model.specs.Rules.{settle, hold, arrive, quiescent}
 use Rattle.model.specs.Calls.{Call, Send, Arrive, call, Log, log, Rest, rest}
 use Rattle.model.specs.Claims.{SendAnswer, no-source, no-group, too-many, too-far, accepted, ArriveAnswer, not-made, repeats, waits}
 use Rattle.model.specs.Claims.{takes, changesNothing}
 
 -- what holds of a refusal and of the rest
-pub refuse-either : {A : Type 0} (Q : A → Type 0) (b : Bool) (x y : A) → (b ≡ true → Q x) → (b ≡ false → Q y) → Q (refuse b x y)
+pub refuse-either : {A : Type 0} (Q : A → Type 0) (b : Bool) (x y : A) → (b ≡ true → Q x)
+    → (b ≡ false → Q y) → Q (refuse b x y)
 unfolding refuse
 refuse-either Q true x y f g = f refl
 refuse-either Q false x y f g = g refl
@@ -27,7 +28,8 @@ settle-tally : (k : ℕ) (P : Plan) (s r n : ℕ) (W : Network) → (i : ℕ) ×
 unfolding settle answerOf
 settle-tally zero P s r n W = (n, refl)
 settle-tally (suc k) P s r n (network ms hs ls) = ⊎-elim
-    (λ (t : ltb (nextHeld s r hs) (length hs) ≡ true). simp t (settle-tally k P s r (suc n) (takeHop P (nextHeld s r hs) (network ms hs ls))))
+    (λ (t : ltb (nextHeld s r hs) (length hs) ≡ true). simp t (settle-tally k P s r (suc n)
+    (takeHop P (nextHeld s r hs) (network ms hs ls))))
     (λ (t : ltb (nextHeld s r hs) (length hs) ≡ false). simp t (n, refl))
     (either (ltb (nextHeld s r hs) (length hs)))
 
@@ -50,7 +52,8 @@ send-answers P s g w hops (network ms hs ls) whole =
     (λ b15. accepted source group few (ltb-false 2000 far b15))))))
 
 -- an answer of settling
-tally-answer : (j : ℕ) (hs : List Hop) (a : Answer) (i : ℕ) → a ≡ tally i → j < length hs → isOut (hopAt hs j) ≡ true → ArriveAnswer j hs a
+tally-answer : (j : ℕ) (hs : List Hop) (a : Answer) (i : ℕ) → a ≡ tally i → j < length hs → isOut (hopAt hs j) ≡ true
+    → ArriveAnswer j hs a
 unfolding tally
 tally-answer j hs a zero e b out = subst (ArriveAnswer j hs) (sym e) (waits b out)
 tally-answer j hs a (suc n) e b out = subst (ArriveAnswer j hs) (sym e) (takes n b out)
@@ -118,7 +121,7 @@ unchanged P (Arrive j hops book) W = keeps-refused W (ltb hops 2000 || ltb book 
 refuse-none : {A : Type 0} (b : Bool) (x y : A) → b ≡ false → refuse b x y ≡ y
 refuse-none b x y e = refuse-either (λ z. z ≡ y) b x y (λ t. absurd (clash t e)) (λ t. refl)
 
--- a unit's log is what log hands back for it
+-- the call log hands back a unit's log
 pub log-answers : (P : Plan) (u book : ℕ) (W : Network) → u < P .units → 6400 ≤ book → log P u book W ≡ Log (logOf u W)
 unfolding log
 log-answers P u book W b whole =

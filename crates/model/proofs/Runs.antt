@@ -1,5 +1,5 @@
--- What every list of calls keeps: the network is sound, the messages are those read off the calls and answers, the copies taken are those that
--- the answers count, and no pair has a copy left to be taken. Assumes nothing.
+-- What every list of calls keeps: the network is sound, the messages are those read off the calls and answers, the copies taken are those
+-- that the answers count, and no pair has a copy left to be taken. Assumes nothing.
 use mathlib.Core.Path.{_≡_, refl, sym, ap, subst, _∙_}
 use mathlib.Core.Logic.{⊎-elim}
 use mathlib.Core.Bool.{Bool, true, false, _||_}
@@ -14,10 +14,11 @@ use Rattle.sets.specs.Sets.{member}
 use Rattle.sets.proofs.Bools.{either}
 use Rattle.model.specs.declared.Hop.{Hop}
 use Rattle.model.specs.declared.Message.{Message}
-use Rattle.model.specs.Network.{sumOf, bit, Plan, groupOf, primaryOf, routeOf, routeSizeOf, Network, network, fresh, messageAt, hopAt}
-use Rattle.model.specs.Network.{messagesOf, hopsOf, isOut, isTaken, withState, setState, countHops, newHop, made}
-use Rattle.model.specs.Rules.{Answer, Refused, Sent, Repeat, Outcome, outcome, refuse, refused, routeTotal, send, childrenOn, forward}
-use Rattle.model.specs.Rules.{push, rising, logged, takeHop, nextHeld, lowestUntaken, isHeldAt, tally, settle, hold, arrive}
+use Rattle.model.specs.Network.{sumOf, bit, Plan, groupOf, primaryOf, routeOf, routeSizeOf, Network, network, fresh, messageAt}
+use Rattle.model.specs.Network.{hopAt, messagesOf, hopsOf, isOut, isTaken, withState, setState, countHops, newHop, made}
+use Rattle.model.specs.Rules.{Answer, Refused, Sent, Repeat, Outcome, outcome, refuse, refused, routeTotal, send, childrenOn}
+use Rattle.model.specs.Rules.{forward, push, rising, logged, takeHop, nextHeld, lowestUntaken, isHeldAt, tally, settle, hold}
+use Rattle.model.specs.Rules.{arrive}
 use Rattle.model.specs.Calls.{Call, Send, Arrive, call, Answered, answered, Run, ran, recorded, step, runFrom, run, historyOf}
 use Rattle.model.specs.Demand3.{SentMessage, sentAs, sentBy, sent, carried, carriedBy, takenTotal}
 use Rattle.model.specs.Claims.{Settled, callOf}
@@ -38,7 +39,8 @@ unfoldable pub enumerate : ℕ → List Message → List SentMessage
 enumerate i [] = []
 enumerate i (x ∷ xs) = numberedAs i x ∷ enumerate (suc i) xs
 
-enumerate-snoc : (i : ℕ) (ms : List Message) (x : Message) → enumerate i (ms ++ x ∷ []) ≡ enumerate i ms ++ numberedAs (length ms + i) x ∷ []
+enumerate-snoc : (i : ℕ) (ms : List Message) (x : Message) → enumerate i (ms ++ x ∷ []) ≡ enumerate i ms
+    ++ numberedAs (length ms + i) x ∷ []
 unfolding enumerate
 enumerate-snoc i [] x = ap (λ (n : ℕ). numberedAs n x ∷ []) (let e : i ≡ 0 + i = omega arith in e)
 enumerate-snoc i (y ∷ ms) x =
@@ -87,7 +89,7 @@ module _ (P : Plan) (forest : Forest P) where
       count-forward isTaken _ _ _ (setState j 2 hs) (λ c l. refl)
       ∙ omega (arith, count-state isTaken j 2 hs (N .within), ap bit (held-untaken (hopAt hs j) (N .held)))
 
-  -- ---- as long as the next copy is held, it is taken
+  -- ---- the next copy is taken while it is held
 
   -- an arrival has left W and answers a; `before` copies had been taken, and the messages are ms
   pub record Settles (ms : List Message) (before : ℕ) (a : Answer) (W : Network) : Type 0 where
@@ -159,7 +161,8 @@ module _ (P : Plan) (forest : Forest P) where
   }
 
   -- one that changes nothing
-  kept-same : (past : List Answered) (W : Network) (c : Call) (a : Answer) → Kept past W → sentBy (answered c a) ≡ [] → carried a ≡ 0
+  kept-same : (past : List Answered) (W : Network) (c : Call) (a : Answer) → Kept past W
+      → sentBy (answered c a) ≡ [] → carried a ≡ 0
       → Kept (past ++ answered c a ∷ []) W
   kept-same past W c a K none zero-taken = kept-arrived past W W c a K none
       (record { valid = K .valid; messages = refl; takes = omega arith; idle = K .idle })
@@ -175,7 +178,8 @@ module _ (P : Plan) (forest : Forest P) where
 
   -- ---- each call
 
-  kept-sent : (past : List Answered) (ms : List Message) (hs : List Hop) (ls : List (List ℕ)) (s g w hops : ℕ) → Kept past (network ms hs ls)
+  kept-sent : (past : List Answered) (ms : List Message) (hs : List Hop) (ls : List (List ℕ)) (s g w hops : ℕ)
+      → Kept past (network ms hs ls)
       → s < P .units → g < P .count → length ms < 200 → routeTotal P ms + routeSizeOf P g ≤ 2000
       → Kept (past ++ answered (Send s g w hops) (Sent (suc (length ms))) ∷ [])
       (network (ms ++ record { source = s; group = g; word = w } ∷ []) (made s (primaryOf P g) (suc (length ms)) hs) ls)
@@ -211,7 +215,8 @@ module _ (P : Plan) (forest : Forest P) where
 
   kept-out : (past : List Answered) (ms : List Message) (hs : List Hop) (ls : List (List ℕ)) (j : ℕ) → Kept past (network ms hs ls)
       → j < length hs → isOut (hopAt hs j) ≡ true
-      → SettlesAs ms (countHops isTaken hs) (settle (length hs) P (hopAt hs j .sender) (hopAt hs j .receiver) 0 (hold j (network ms hs ls)))
+      → SettlesAs ms (countHops isTaken hs) (settle (length hs) P (hopAt hs j .sender) (hopAt hs j .receiver) 0
+      (hold j (network ms hs ls)))
   unfolding hold Valid hopsOf OthersIdle withState bit isTaken
   kept-out past ms hs ls j K b out =
       let waits = out-untaken (hopAt hs j) out in
@@ -278,14 +283,16 @@ calls-from : (P : Plan) (cs : List Call) (r : Run) → map callOf (historyOf (ru
 unfolding runFrom
 calls-from P [] r = sym (append-nil (map callOf (historyOf r)))
 calls-from P (c ∷ cs) r =
-    calls-from P cs (step P c r) ∙ ap (λ (l : List Call). l ++ cs) (step-calls P c r) ∙ append-assoc (map callOf (historyOf r)) (c ∷ []) cs
+    calls-from P cs (step P c r) ∙ ap (λ (l : List Call). l ++ cs) (step-calls P c r)
+    ∙ append-assoc (map callOf (historyOf r)) (c ∷ []) cs
 
 -- the calls recorded are those of the list
 pub run-calls : (P : Plan) (cs : List Call) → map callOf (historyOf (run P cs)) ≡ cs
 unfolding run historyOf
 run-calls P cs = calls-from P cs (ran fresh [])
 
-pub enumerate-numbers : (i : ℕ) (ms : List Message) → map (λ x. x .number) (enumerate i ms) ≡ rising (length (enumerate i ms)) i (λ n. true)
+pub enumerate-numbers : (i : ℕ) (ms : List Message) → map (λ x. x .number) (enumerate i ms)
+    ≡ rising (length (enumerate i ms)) i (λ n. true)
 unfolding enumerate numberedAs rising push
 enumerate-numbers i [] = refl
 enumerate-numbers i (x ∷ ms) = ap (λ (l : List ℕ). i ∷ l) (enumerate-numbers (suc i) ms)

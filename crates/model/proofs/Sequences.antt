@@ -1,4 +1,4 @@
--- Sequence numbers: each pair's hops are numbered 1, 2, .. in the order made, so that the lowest number not yet taken is that of the pair's
+-- Sequence numbers: each pair's hops have 1, 2 and so on in the order made, so that the lowest number not yet taken is that of the pair's
 -- first untaken hop. Assumes nothing.
 use mathlib.Core.Path.{_≡_, refl, sym, ap, subst, _∙_}
 use mathlib.Core.Logic.{_⊎_, inl, inr, ⊎-elim, by-cases}
@@ -14,15 +14,16 @@ use lib.Seq.{length-take-le, take-append-le, take-append-seam}
 use lib.Dec.{eqb, ltb}
 use Rattle.sets.proofs.Bools.{either, clash, and-left, and-right, and-both, false-of-not}
 use Rattle.model.specs.declared.Hop.{Hop}
-use Rattle.model.specs.Network.{sumOf, bit, hopAt, withState, setState, isPair, isTaken, isHeld, isOut, countHops, pairCount, newHop}
-use Rattle.model.specs.Network.{made}
+use Rattle.model.specs.Network.{sumOf, bit, hopAt, withState, setState, isPair, isTaken, isHeld, isOut, countHops, pairCount}
+use Rattle.model.specs.Network.{newHop, made}
 use Rattle.model.specs.Rules.{forward, lower, lowestUntaken, placeOf, isHeldAt, nextHeld}
 use Rattle.model.proofs.Hops.{length-snoc, hop-old, hop-new, length-state, state-same, state-other, count-length}
 
 -- ---- a hop's sequence number is one more than the number of the pair's older hops
 
 unfoldable pub Numbered : List Hop → Type 0
-Numbered hs = (i : ℕ) → i < length hs → hopAt hs i .sequence ≡ suc (pairCount (hopAt hs i .sender) (hopAt hs i .receiver) (take i hs))
+Numbered hs = (i : ℕ) → i < length hs → hopAt hs i .sequence ≡ suc
+    (pairCount (hopAt hs i .sender) (hopAt hs i .receiver) (take i hs))
 
 pub numbered-made : (s r m : ℕ) (hs : List Hop) → Numbered hs → Numbered (made s r m hs)
 unfolding Numbered made newHop
@@ -154,7 +155,8 @@ untaken-later : {s r : ℕ} {hs : List Hop} {i : ℕ} (h : Hop) → Untaken s r 
 unfolding hopAt
 untaken-later h w = record { within = omega (arith, w .within); pair = w .pair; waits = w .waits }
 
-pub untaken-least : (s r : ℕ) (hs : List Hop) → ((i : ℕ) → i < length hs → 1 ≤ hopAt hs i .sequence) → (i : ℕ) → Untaken s r hs i
+pub untaken-least : (s r : ℕ) (hs : List Hop) → ((i : ℕ) → i < length hs → 1 ≤ hopAt hs i .sequence)
+    → (i : ℕ) → Untaken s r hs i
     → (1 ≤ lowestUntaken s r hs) × (lowestUntaken s r hs ≤ hopAt hs i .sequence)
 unfolding lowestUntaken hopAt
 untaken-least s r [] some i w = absurd (not-suc-le-zero (w .within))
@@ -210,12 +212,17 @@ module _ (s r : ℕ) (hs : List Hop) (num : Numbered hs) where
       → (i : ℕ) → i < j → isPair s r (hopAt hs i) ≡ true → isTaken (hopAt hs i) ≡ true
   older-taken j b p e i l q = ⊎-elim (λ t. t)
       (λ (t : isTaken (hopAt hs i) ≡ false).
-      let least = untaken-least s r hs numbered-some i (record { within = let z : i < length hs = omega arith in z; pair = q; waits = t }) in
+      let least = untaken-least s r hs numbered-some i (record {
+        within = let z : i < length hs = omega arith in z;
+        pair = q;
+        waits = t;
+      }) in
       absurd (omega (arith, least .1, sequence-rises s r hs num i j l b q p)))
       (either (isTaken (hopAt hs i)))
 
   -- the pair's first untaken hop, in the order made, has the lowest number not yet taken
-  pub first-lowest : (j : ℕ) → Untaken s r hs j → ((i : ℕ) → i < j → isPair s r (hopAt hs i) ≡ true → isTaken (hopAt hs i) ≡ true)
+  pub first-lowest : (j : ℕ) → Untaken s r hs j → ((i : ℕ) → i < j → isPair s r (hopAt hs i) ≡ true
+      → isTaken (hopAt hs i) ≡ true)
       → hopAt hs j .sequence ≡ lowestUntaken s r hs
   first-lowest j w older =
       let least = untaken-least s r hs numbered-some j w in
@@ -241,7 +248,8 @@ place-found t (h ∷ hs) b = ⊎-elim
     (λ (e : t h ≡ false). simp e (place-found t hs (le-of-suc-le-suc (simp e at b))))
     (either (t h))
 
-pub place-none : (t : Hop → Bool) (hs : List Hop) → length hs ≤ placeOf t hs → (j : ℕ) → j < length hs → t (hopAt hs j) ≡ false
+pub place-none : (t : Hop → Bool) (hs : List Hop) → length hs ≤ placeOf t hs → (j : ℕ) → j < length hs
+    → t (hopAt hs j) ≡ false
 unfolding placeOf hopAt
 place-none t [] n j b = absurd (not-suc-le-zero b)
 place-none t (h ∷ hs) n j b = ⊎-elim
@@ -249,7 +257,8 @@ place-none t (h ∷ hs) n j b = ⊎-elim
     (λ (e : t h ≡ false). at j b e (place-none t hs (le-of-suc-le-suc (simp e at n))))
     (either (t h))
   where
-    at : (i : ℕ) → i < length (h ∷ hs) → t h ≡ false → ((k : ℕ) → k < length hs → t (hopAt hs k) ≡ false) → t (hopAt (h ∷ hs) i) ≡ false
+    at : (i : ℕ) → i < length (h ∷ hs) → t h ≡ false → ((k : ℕ) → k < length hs → t (hopAt hs k) ≡ false)
+        → t (hopAt (h ∷ hs) i) ≡ false
     at zero c e rest = e
     at (suc i) c e rest = rest i (le-of-suc-le-suc c)
 

@@ -37,7 +37,8 @@ pub record Forest (P : Plan) : Type 0 where
   pub members-units : (g u : ℕ) → g < P .count → member (groupOf P g) u ≡ true → u < P .units
   pub primary-on : (g : ℕ) → g < P .count → member (routeOf P g) (primaryOf P g) ≡ true
   pub members-on : (g u : ℕ) → g < P .count → member (groupOf P g) u ≡ true → member (routeOf P g) u ≡ true
-  pub parent-on : (g u : ℕ) → member (routeOf P g) u ≡ true → (u ≡ primaryOf P g → ⊥) → member (routeOf P g) (parent (P .parents) u) ≡ true
+  pub parent-on : (g u : ℕ) → member (routeOf P g) u ≡ true → (u ≡ primaryOf P g → ⊥)
+      → member (routeOf P g) (parent (P .parents) u) ≡ true
 
 -- ---- tables of messages
 
@@ -137,7 +138,8 @@ module _ (P : Plan) (forest : Forest P) (T : List Message) where
     m = suc (length ms)
 
     -- what holds of the messages so far and of the new one
-    with-new : (x : Message) (Q : Message → Type 0) → messageAt T m ≡ x → Q x → ((k : ℕ) → 1 ≤ k → k ≤ length ms → Q (messageAt T k))
+    with-new : (x : Message) (Q : Message → Type 0) → messageAt T m ≡ x → Q x
+        → ((k : ℕ) → 1 ≤ k → k ≤ length ms → Q (messageAt T k))
         → (k : ℕ) → 1 ≤ k → k ≤ length (ms ++ x ∷ []) → Q (messageAt T k)
     unfolding m
     with-new x Q is-x q old k a b = by-cases (ℕ-discrete k m)
@@ -150,11 +152,13 @@ module _ (P : Plan) (forest : Forest P) (T : List Message) where
         → Sound (ms ++ x ∷ []) (made (x .source) (primaryOf P (x .group)) (suc (length ms)) hs) ls
     unfolding m mail downFrom taken made newHop
     sound-sent x after e s g few routes =
-        let is-x : messageAt T m ≡ x = ap (λ (l : List Message). messageAt l m) (e ∙ append-snoc ms x after) ∙ message-new ms x after in
+        let is-x : messageAt T m ≡ x = ap (λ (l : List Message). messageAt l m) (e ∙ append-snoc ms x after)
+        ∙ message-new ms x after in
         let fresh : In m (mail (K .history)) → ⊥ =
         λ i. let r = in-down (length ms) (subst (λ (l : List ℕ). In m l) (K .mails) i) in lt-irrefl m (omega arith) in
         let on : S .on m (S .primary m) ≡ true = forest .primary-on _ (subst (λ (y : Message). y .group < P .count) (sym is-x) g) in
-        let size-is : routeSizeOf P (messageAt T m .group) ≡ routeSizeOf P (x .group) = ap (λ (y : Message). routeSizeOf P (y .group)) is-x in
+        let size-is : routeSizeOf P (messageAt T m .group) ≡ routeSizeOf P (x .group) = ap
+        (λ (y : Message). routeSizeOf P (y .group)) is-x in
         let made-as : Message → List Hop = λ y. made (y .source) (primaryOf P (y .group)) m hs in record {
           later = after;
           table = e;
@@ -167,7 +171,8 @@ module _ (P : Plan) (forest : Forest P) (T : List Message) where
           logs = K .logs;
           potentials = subst (λ (y : Message). sumOf potential (made-as y) ≡ routeTotal P (ms ++ x ∷ [])) is-x
               (sum-snoc potential hs (newHop (S .source m) (S .primary m) m hs)
-              ∙ ap (λ (n : ℕ). sumOf potential hs + n) (potential-new (S .source m) (S .primary m) m hs ∙ potential-primary m ∙ size-is)
+              ∙ ap (λ (n : ℕ). sumOf potential hs + n) (potential-new (S .source m) (S .primary m) m hs
+              ∙ potential-primary m ∙ size-is)
               ∙ ap (λ (n : ℕ). n + routeSizeOf P (x .group)) (K .potentials) ∙ sym (total-snoc P ms x));
           admitted = record {
             few = omega (arith, length-snoc ms x);
@@ -191,7 +196,8 @@ module _ (P : Plan) (forest : Forest P) (T : List Message) where
       numbers = numbered-state j 1 hs (K .numbers);
       rows = K .rows;
       logs = K .logs;
-      potentials = (let same : potential (hopAt hs j) ≡ potential (withState 1 (hopAt hs j)) = cond-false (isTaken (hopAt hs j)) 1 _ waits in
+      potentials = (let same : potential (hopAt hs j) ≡ potential (withState 1 (hopAt hs j)) = cond-false
+          (isTaken (hopAt hs j)) 1 _ waits in
           omega (arith, sum-state potential j 1 hs b)) ∙ K .potentials;
       admitted = K .admitted;
       states = all-state (λ h. h .state ≤ 2) j 1 hs (λ i c n. K .states i c) (λ c. omega arith);
@@ -229,13 +235,15 @@ module _ (P : Plan) (forest : Forest P) (T : List Message) where
     row true u l e true q =
         ap (λ (x : ℕ). getD (set ls r (getD ls r [] ++ number ∷ [])) x []) (sym (eqb-true r u q))
         ∙ getD-set-same ls r (getD ls r [] ++ number ∷ []) [] (let z : r < length ls = omega (arith, K .rows, receiver-unit) in z)
-        ∙ ap (λ (x : ℕ). getD ls x [] ++ number ∷ []) (eqb-true r u q) ∙ ap (λ (x : List ℕ). x ++ number ∷ []) e ∙ sym (reverse-cons number l)
+        ∙ ap (λ (x : ℕ). getD ls x [] ++ number ∷ []) (eqb-true r u q) ∙ ap (λ (x : List ℕ). x ++ number ∷ []) e
+        ∙ sym (reverse-cons number l)
     row true u l e false q = getD-set-other ls r u _ [] (λ p. absurd (clash (eq-eqb r u (sym p)) q)) ∙ e
     row false u l e true q = e
     row false u l e false q = e
 
     kept : (u : ℕ) (l : List ℕ) (t : Bool) → eqb r u ≡ t
-        → cond t (push (member (groupOf P group) r) number (keep (addressed u) l)) (keep (addressed u) l) ≡ keep (addressed u) (push t number l)
+        → cond t (push (member (groupOf P group) r) number (keep (addressed u) l)) (keep (addressed u) l)
+        ≡ keep (addressed u) (push t number l)
     unfolding keep push addressed group
     kept u l true q = ap (λ (x : ℕ). push (member (groupOf P group) x) number (keep (addressed u) l)) (eqb-true r u q)
     kept u l false q = refl

@@ -51,7 +51,8 @@ pub children-distinct : (ps : List ℕ) (way u : ℕ) → Distinct (childrenOn p
 unfolding childrenOn
 children-distinct ps way u = rising-distinct 32 0 (λ c. eqb (parent ps c) u && member way c)
 
-pub children-in : (ps : List ℕ) (way u c : ℕ) → In c (childrenOn ps way u) → (c < 32) × (parent ps c ≡ u) × (member way c ≡ true)
+pub children-in : (ps : List ℕ) (way u c : ℕ) → In c (childrenOn ps way u) → (c < 32) × (parent ps c ≡ u)
+    × (member way c ≡ true)
 unfolding childrenOn
 children-in ps way u c m =
     let r = rising-in 32 0 (λ c. eqb (parent ps c) u && member way c) c m in
@@ -174,7 +175,8 @@ module _ (ps : List ℕ) where
       p = primary ps g
 
   -- between a unit of a route and one below it that is on the route: on the route
-  pub between-on-route : (g u c x : ℕ) → member (route ps g) u ≡ true → Above ps u c → Above ps c x → member (route ps g) x ≡ true
+  pub between-on-route : (g u c x : ℕ) → member (route ps g) u ≡ true → Above ps u c → Above ps c x
+      → member (route ps g) x ≡ true
       → member (route ps g) c ≡ true
   between-on-route g u c x mu r s mx =
       let m = on-route ps g x mx .member-below in
@@ -188,7 +190,8 @@ module _ (ps : List ℕ) (acyclic : Acyclic ps) where
   unfolding depth
   depth-parent u h = fewer-ancestors ps u acyclic h
 
-  pub depth-primary : (g u : ℕ) → member (route ps g) u ≡ true → (u ≡ primary ps g → ⊥) → depth ps (primary ps g) < depth ps u
+  pub depth-primary : (g u : ℕ) → member (route ps g) u ≡ true → (u ≡ primary ps g → ⊥)
+      → depth ps (primary ps g) < depth ps u
   depth-primary g u m n =
       let p = parent-below (on-route ps g u m .below-primary) n in
       lt-of-le-of-lt (depth-above ps (p .1)) (depth-parent u (p .0))

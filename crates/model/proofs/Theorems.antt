@@ -20,7 +20,8 @@ use Rattle.model.proofs.Demand.{sound-limits, sound-demand}
 
 -- the table is the messages sent
 module _ (P : Plan) (forest : Forest P) where
-  pub own-table : (ms : List Message) (hs : List Hop) (ls : List (List ℕ)) → Valid P forest (network ms hs ls) → Sound P forest ms ms hs ls
+  pub own-table : (ms : List Message) (hs : List Hop) (ls : List (List ℕ)) → Valid P forest (network ms hs ls)
+      → Sound P forest ms ms hs ls
   unfolding Valid
   own-table ms hs ls valid = valid ms [] (sym (append-nil ms))
 
@@ -33,7 +34,8 @@ module _ (P : Plan) (forest : Forest P) where
   run-demand (ran (network ms hs ls) past) kept =
       sound-demand P forest ms ms hs ls (own-table ms hs ls (kept .valid)) past (kept .sends) (kept .takes)
 
-  run-numbers : (r : Run) → KeptRun P forest r → map (λ x. x .number) (sent (historyOf r)) ≡ rising (length (sent (historyOf r))) 1 (λ n. true)
+  run-numbers : (r : Run) → KeptRun P forest r → map (λ x. x .number) (sent (historyOf r))
+      ≡ rising (length (sent (historyOf r))) 1 (λ n. true)
   unfolding KeptRun historyOf
   run-numbers (ran W past) kept = rw (kept .sends) (enumerate-numbers 1 (messagesOf W))
 

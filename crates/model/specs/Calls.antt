@@ -1,4 +1,5 @@
--- Calls as data, and lists of them (document 01, "Turned away" and the last paragraph of "The bench, message by message"). Definitions only.
+-- Calls as data, and lists of them (document 01, "Turned away" and the last paragraph of "The bench, message by message"). Definitions
+-- only.
 use Prim.Native.Nat.{ℕ}
 use mathlib.Core.Bool.{Bool, _||_}
 use mathlib.Core.List.{List, [], _∷_, _++_}
@@ -11,7 +12,7 @@ pub data Call : Type 0 where
   Send : (source group word hops : ℕ) → Call
   Arrive : (hop hops book : ℕ) → Call
 
--- a call that is lent too short a list answers 1 and changes nothing
+-- a call whose lists are too short answers 1 and changes nothing
 unfoldable pub call : Plan → Call → Network → Outcome
 call P (Send s g w hops) W = refuse (ltb hops 2000) (refused 1 W) (send P s g w W)
 call P (Arrive j hops book) W = refuse (ltb hops 2000 || ltb book 6400) (refused 1 W) (arrive P j W)
@@ -61,6 +62,6 @@ pub data RestAnswer : Type 0 where
   RestRefused : ℕ → RestAnswer
   Rest : Bool → RestAnswer
 
--- whether the bench is at rest
+-- is the bench at rest?
 unfoldable pub rest : (hops : ℕ) → Network → RestAnswer
 rest hops W = refuse (ltb hops 2000) (RestRefused 1) (Rest (quiescent W))

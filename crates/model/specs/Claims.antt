@@ -43,7 +43,8 @@ pub data SendAnswer (P : Plan) (s g : ℕ) (ms : List Message) : Answer → Type
   no-source : P .units ≤ s → SendAnswer P s g ms (Refused 12)
   no-group : s < P .units → P .count ≤ g → SendAnswer P s g ms (Refused 13)
   too-many : s < P .units → g < P .count → 200 ≤ length ms → SendAnswer P s g ms (Refused 14)
-  too-far : s < P .units → g < P .count → length ms < 200 → 2000 < routeTotal P ms + routeSizeOf P g → SendAnswer P s g ms (Refused 15)
+  too-far : s < P .units → g < P .count → length ms < 200 → 2000 < routeTotal P ms + routeSizeOf P g
+      → SendAnswer P s g ms (Refused 15)
   accepted : s < P .units → g < P .count → length ms < 200 → routeTotal P ms + routeSizeOf P g ≤ 2000
       → SendAnswer P s g ms (Sent (suc (length ms)))
 

@@ -11,9 +11,10 @@ use Rattle.model.specs.Network.{Plan, groupOf, routeSizeOf, sumOf}
 use Rattle.model.specs.Rules.{Answer, Refused, Sent, Repeat, Held, Taken}
 use Rattle.model.specs.Calls.{Send, Arrive, Answered, answered}
 
--- the plan's forest comes from an unrefused `build` or `check` with the same units and groups
+-- an unrefused `build` or `check` of the plan's units and groups gave its forest
 pub data Planned (P : Plan) : Type 0 where
-  built : buildRefusal (P .units) (P .count) (P .groups) ≡ [] → P .parents ≡ buildParents (P .units) (P .count) (P .groups) → Planned P
+  built : buildRefusal (P .units) (P .count) (P .groups) ≡ [] → P .parents ≡ buildParents (P .units) (P .count)
+      (P .groups) → Planned P
   checked : (drawing : List ℕ) → checkRefusal (P .units) (P .count) (P .groups) drawing ≡ []
       → P .parents ≡ checkParents (P .units) (P .count) (P .groups) drawing → Planned P
 
@@ -42,7 +43,7 @@ pub record SentMessage : Type 0 where
   pub source : ℕ
   pub group : ℕ
 
--- a message is sent by each send not turned away: its number is that answer, its source and group are that call's own
+-- a send that is not turned away is a message: numbered as answered, with the call's source and group
 unfoldable pub sentAs : ℕ → ℕ → Answer → List SentMessage
 sentAs s g (Refused k) = []
 sentAs s g (Sent m) = record { number = m; source = s; group = g } ∷ []
@@ -54,12 +55,12 @@ unfoldable pub sentBy : Answered → List SentMessage
 sentBy (answered (Send s g w hops) a) = sentAs s g a
 sentBy (answered (Arrive j hops book) a) = []
 
--- the messages sent, in the order of those calls
+-- the messages sent, in the order of their sends
 unfoldable pub sent : List Answered → List SentMessage
 sent [] = []
 sent (x ∷ past) = sentBy x ++ sent past
 
--- the number that an answer of taken carries; the number that a call's answer carries
+-- the number carried by a taken answer, 0 for others; the same of a call with its answer
 unfoldable pub carried : Answer → ℕ
 carried (Refused k) = 0
 carried (Sent m) = 0
@@ -111,7 +112,7 @@ pub record Demand3 (P : Plan) (logs : ℕ → List ℕ) (rest : Bool) (past : Li
       → (x : SentMessage) × In x (sent past) × (x .number ≡ m) × (member (groupOf P (x .group)) u ≡ true)
   -- none twice
   pub once : (u : ℕ) → Distinct (logs u)
-  -- the bench is at rest exactly when the answers of taken and the route sizes of the messages sent make the same sum
+  -- at rest exactly when the answers of taken and the route sizes of the messages sent make the same sum
   pub rest-sums : rest ≡ true → takenTotal past ≡ sentTotal P (sent past)
   pub sums-rest : takenTotal past ≡ sentTotal P (sent past) → rest ≡ true
   -- and each member's log then holds every message sent to its group

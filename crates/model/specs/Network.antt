@@ -51,7 +51,7 @@ noHop = record { sender = 0; receiver = 0; sequence = 0; message = 0; state = 0 
 unfoldable pub messageAt : List Message → ℕ → Message
 messageAt ms m = getD ms (m - 1) noMessage
 
--- hop j; hops are numbered from 0
+-- hop j, from 0 on
 unfoldable pub hopAt : List Hop → ℕ → Hop
 hopAt hs j = getD hs j noHop
 

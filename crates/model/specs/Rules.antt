@@ -44,11 +44,11 @@ leftOf (outcome a W) = W
 
 -- ---- send
 
--- the route sizes of all messages sent
+-- the sum of the route sizes of messages
 unfoldable pub routeTotal : Plan → List Message → ℕ
 routeTotal P ms = sumOf (λ x. routeSizeOf P (x .group)) ms
 
--- a send is recorded and makes one hop, out, from the source to the group's primary; no log changes
+-- a send is recorded, and a hop to the primary made, in state out; logs stay
 unfoldable pub send : Plan → (source group word : ℕ) → Network → Outcome
 send P s g w (network ms hs ls) =
     let W = network ms hs ls in
@@ -85,8 +85,8 @@ unfoldable pub logged : Bool → ℕ → ℕ → List (List ℕ) → List (List 
 logged true u m ls = set ls u (getD ls u [] ++ m ∷ [])
 logged false u m ls = ls
 
--- hop j is taken: a receiver that is a member logs the message; then, for each child of the receiver that is on the group's route, a hop to
--- that child is made
+-- hop j is taken: its receiver logs the message if it is a member; then a hop is made to each of the receiver's children on the group's
+-- route
 unfoldable pub takeHop : Plan → ℕ → Network → Network
 takeHop P j (network ms hs ls) =
     let h = hopAt hs j in
@@ -124,7 +124,7 @@ unfoldable pub tally : ℕ → Answer
 tally zero = Held
 tally (suc n) = Taken (suc n)
 
--- as long as the lowest sequence number from s to r not yet taken is held, it is taken. n were taken before, and at most k are taken now:
+-- takes the hop from s to r with the lowest number that is not taken, while it is held. n were taken before, and at most k are taken here:
 -- as many as there are hops are enough (theorem `settled`)
 unfoldable pub settle : ℕ → Plan → ℕ → ℕ → ℕ → Network → Outcome
 settle zero P s r n W = outcome (tally n) W
@@ -138,7 +138,7 @@ settle (suc k) P s r n (network ms hs ls) =
 unfoldable pub hold : ℕ → Network → Network
 hold j (network ms hs ls) = network ms (setState j 1 hs) ls
 
--- a hop that is held or taken is a repeat; one that is out becomes held, and then its pair is settled
+-- an arrival of a held or a taken hop is a repeat; any other is held, and then its pair is settled
 unfoldable pub arrive : Plan → ℕ → Network → Outcome
 arrive P j (network ms hs ls) =
     let W = network ms hs ls in

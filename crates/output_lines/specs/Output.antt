@@ -1,4 +1,5 @@
--- Rules of the lines that the program prints (document 01, "The bench file", second paragraph). A line is a text without its LF. Definitions only.
+-- Rules of the lines that the program prints (document 01, "The bench file", second paragraph). A line is a text without its LF.
+-- Definitions only.
 use Prim.Native.Nat.{ℕ}
 use mathlib.Core.Bool.{Bool, true, false}
 use mathlib.Core.List.{List, [], _∷_, _++_}
@@ -39,10 +40,10 @@ messageTexts (m ∷ ms) = 44 ∷ decimal m ++ messageTexts ms
 unfoldable pub logLine : ℕ → List ℕ → List ℕ
 logLine unit messages = logKey ++ decimal unit ++ messageTexts messages
 
--- `hops=` and the hops made
+-- `hops=` and the number of hops made
 unfoldable pub hopsLine : ℕ → List ℕ
 hopsLine hops = countLine hopsKey hops
 
--- `rest=yes` or `rest=no`
+-- the last line: `rest=` and `yes` or `no`
 unfoldable pub restLine : Bool → List ℕ
 restLine rest = restKey ++ answerWord rest

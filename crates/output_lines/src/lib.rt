@@ -1,5 +1,5 @@
-// Lines that the program prints (document 01), put into a lent list from a place on, each with its LF. Each function answers the place after it; at
-// the list's end writing stops.
+// Lines that the program prints (document 01), put into a lent list from a place on, each with its LF. Each function answers the place
+// after it; at the list's end writing stops.
 use text::writing::put;
 use text::writing::put_number;
 use text::writing::put_text;
@@ -49,7 +49,7 @@ pub fn put_hops(out: &mut [u8], at: usize, hops: u16) -> usize
     line_writer::put_count(out, at, b"hops=", hops)
 }
 
-// `rest=yes` or `rest=no`.
+// The last line: `rest=` and `yes` or `no`.
 pub fn put_rest(out: &mut [u8], at: usize, rest: bool) -> usize
     ensures { λ r. ⌜ Written (restLine rest ++ 10 ∷ []) at (now (out .entry)) r (now (out .exit)) ⌝ }
 {

@@ -8,8 +8,8 @@ use native.Mathlib.Nat.{add-zero, suc-ne-zero}
 use native.Mathlib.Numerals.{add-one}
 use native.Mathlib.Omega.{arith}
 use borrow.Author.Tests.{lt-ltb, ltb-true, ne-eqb}
-use lib.ListN.{length, take, drop, getD, length-drop, drop-of-length-le}
-use lib.Seq.{take-all, append-snoc, getD-drop, drop-drop}
+use lib.ListN.{length, drop, getD, length-drop}
+use lib.Seq.{append-snoc, getD-drop, drop-drop}
 use lib.Dec.{ltb}
 use Rattle.sets.proofs.Bools.{clash, and-both, and-right}
 use Rattle.text.specs.Writing.{Written}
@@ -34,9 +34,9 @@ use Rattle.bench_promises.specs.declared.replies.ArriveReply.the-variants.{List
 use Rattle.bench_promises.specs.Replies.{sendAnswer, arriveAnswer}
 use Rattle.bench_promises.specs.State.{Bench}
 use Rattle.bench_promises.specs.Promises.{SendPromise, ArrivePromise}
-use Rattle.bench_promises.specs.Chains.{Called, sends, arrives}
+use Rattle.bench_promises.specs.Chains.{Loan, behind, lent, Called, sends, arrives}
 use Rattle.bench_promises.proofs.Padding.{plus-small}
-use Rattle.bench_promises.proofs.Reached.{called-reached, reached-send, reached-arrive}
+use Rattle.bench_promises.proofs.Reached.{hops-whole, book-whole, called-reached, reached-send, reached-arrive}
 use Rattle.bench_engine.specs.declared.Sent.{Sent}
 use Rattle.bench_engine.specs.declared.Arrived.{Arrived}
 use Rattle.lines.specs.Lines.{Event as FileEvent, Send as SendEvent, Arrive as ArriveEvent, eventNumbers}
@@ -107,30 +107,12 @@ send-carries NoSuchGroup = refl
 send-carries TooManyMessages = refl
 send-carries RoutesTooLong = refl
 
--- ---- chains of calls that are lent whole lists
-
-pub record Whole (P : Plan) (past : List Answered) (b : Bench) (hops : List Hop) (book : List ℕ) : Type 0 where
-  pub chain : Called P past b hops book
-  pub hops-whole : length hops ≡ 2000
-  pub book-whole : length book ≡ 6400
-
--- a list of n is lent to its end
-module _ {A : Type 0} (n : ℕ) (l : List A) (size : length l ≡ n) where
-  all-lent : take n l ≡ l
-  all-lent = take-all n l (omega (arith, size))
-
-  lent-length : length (take n l) ≡ n
-  lent-length = ap length all-lent ∙ size
-
-  nothing-past : (left : List A) → left ++ drop n l ≡ left
-  nothing-past left = ap (λ (x : List A). left ++ x) (drop-of-length-le l {i = n} (omega (arith, size))) ∙ append-nil left
-
 -- ---- the records of a run
 
 -- the call c was made: it stands at the end of the chain, with its answer
 record Ran (P : Plan) (past : List Answered) (c : Call) (p q : Progress) (b : Bench) (hops : List Hop) (book : List ℕ) : Type 0 where
   answer : Answer
-  whole : Whole P (past ++ answered c answer ∷ []) b hops book
+  chain : Called P (past ++ answered c answer ∷ []) b hops book
   lines : (k : ℕ) → refusalLines k (q .refusal) ≡ refusedAs k answer
   sum : q .taken ≡ takenTotal (past ++ answered c answer ∷ [])
   at : q .at ≡ p .at
@@ -147,7 +129,7 @@ record WentOn (q r : Progress) : Type 0 where
 pub record EventsLeft (P : Plan) (past : List Answered) (es : List FileEvent) (p : Progress) (out : List ℕ)
     (q : Progress) (b : Bench) (hops : List Hop) (book left : List ℕ) : Type 0 where
   pub new : List Answered
-  pub whole : Whole P (past ++ new) b hops book
+  pub chain : Called P (past ++ new) b hops book
   pub calls : map callOf new ≡ map callFor es
   pub prints : Written (ended (refusedEvents (p .line) new)) (p .at) out (q .at) left
   pub sum : q .taken ≡ takenTotal (past ++ new)
@@ -161,7 +143,8 @@ run-taken P forest (ran W past) kept = kept .takes
 
 module _ (P : Plan) (planned : Planned P) where
   -- the copies taken are hops made
-  taken-few : {past : List Answered} {b : Bench} {hops : List Hop} {book : List ℕ} → Called P past b hops book → takenTotal past ≤ 2000
+  taken-few : {past : List Answered} {b : Bench} {hops : List Hop} {book : List ℕ} → Called P past b hops book
+      → takenTotal past ≤ 2000
   taken-few {past} C =
       let R = called-reached P planned C in
       let forest = planned-forest P planned in
@@ -169,46 +152,48 @@ module _ (P : Plan) (planned : Planned P) where
       let counted = run-taken P forest (run P (R .calls)) (kept-run P forest (R .calls)) in
       omega (arith, ap takenTotal (R .history), counted, count-length isTaken (hopsOf (networkOf (run P (R .calls)))), L .hops, L .routes)
 
-  whole-send : {past : List Answered} {b b′ : Bench} {hops left : List Hop} {book : List ℕ} {r : SendReply} (s g w : ℕ)
-      → Whole P past b hops book → SendPromise b s g w hops r b′ left
-      → Whole P (past ++ answered (Send s g w 2000) (sendAnswer r) ∷ []) b′ left book
-  whole-send {past} {b} {b′} {hops} {left} {book} {r} s g w W promise =
-      let size = W .hops-whole in
-      let lent = subst (λ (l : List Hop). SendPromise b s g w l r b′ left) (sym (all-lent 2000 hops size)) promise in
-      let N = reached-send P planned (called-reached P planned (W .chain)) s g w 2000 lent in
-      let same = nothing-past 2000 hops size left in record {
-        chain = coe 0 1 (i. Called P (past ++ answered (Send s g w (lent-length 2000 hops size i)) (sendAnswer r) ∷ [])
-            b′ (same i) book) (sends (W .chain) s g w 2000 lent);
-        hops-whole = ap length (sym same) ∙ N .hops-length ∙ size;
-        book-whole = W .book-whole;
-      }
+  -- the calls of a chain that are lent its hops and its book with nothing behind them
+  module _ {past : List Answered} {b b′ : Bench} {hops left : List Hop} {book : List ℕ} (C : Called P past b hops book) where
+    pub whole-send : {r : SendReply} (s g w : ℕ) → SendPromise b s g w hops r b′ left
+        → Called P (past ++ answered (Send s g w 2000) (sendAnswer r) ∷ []) b′ left book
+    unfolding lent
+    whole-send {r} s g w promise =
+        let R = called-reached P planned C in
+        let h : Loan Hop 2000 = behind [] in
+        let same = append-nil hops in
+        let lent-all = subst (λ (l : List Hop). SendPromise b s g w l r b′ left) (sym same) promise in
+        let stays = reached-send P planned R s g w h lent-all .stays ∙ append-nil _ in
+        coe 0 1 (i. Called P (past ++ answered (Send s g w ((ap length same ∙ hops-whole P planned R) i)) (sendAnswer r) ∷ [])
+        b′ (sym stays i) book) (sends C s g w h lent-all)
 
-  whole-arrive : {past : List Answered} {b b′ : Bench} {hops left : List Hop} {book book-left : List ℕ} {r : ArriveReply} (hop : ℕ)
-      → Whole P past b hops book → ArrivePromise b hop hops book r b′ left book-left
-      → Whole P (past ++ answered (Arrive hop 2000 6400) (arriveAnswer r) ∷ []) b′ left book-left
-  whole-arrive {past} {b} {b′} {hops} {left} {book} {book-left} {r} hop W promise =
-      let size = W .hops-whole in
-      let size′ = W .book-whole in
-      let lent : ArrivePromise b hop (take 2000 hops) (take 6400 book) r b′ left book-left =
-      coe 0 1 (i. ArrivePromise b hop (sym (all-lent 2000 hops size) i) (sym (all-lent 6400 book size′) i) r b′ left book-left) promise in
-      let N = reached-arrive P planned (called-reached P planned (W .chain)) hop 2000 6400 lent in
-      let same = nothing-past 2000 hops size left in
-      let same′ = nothing-past 6400 book size′ book-left in record {
-        chain = coe 0 1 (i. Called P (past ++ answered (Arrive hop (lent-length 2000 hops size i) (lent-length 6400 book size′ i))
-            (arriveAnswer r) ∷ []) b′ (same i) (same′ i)) (arrives (W .chain) hop 2000 6400 lent);
-        hops-whole = ap length (sym same) ∙ N .hops-length ∙ size;
-        book-whole = ap length (sym same′) ∙ N .book-length ∙ size′;
-      }
+    pub whole-arrive : {book-left : List ℕ} {r : ArriveReply} (hop : ℕ) → ArrivePromise b hop hops book r b′ left book-left
+        → Called P (past ++ answered (Arrive hop 2000 6400) (arriveAnswer r) ∷ []) b′ left book-left
+    unfolding lent
+    whole-arrive {book-left} {r} hop promise =
+        let R = called-reached P planned C in
+        let h : Loan Hop 2000 = behind [] in
+        let k : Loan ℕ 6400 = behind [] in
+        let same = append-nil hops in
+        let same′ = append-nil book in
+        let lent-all : ArrivePromise b hop (hops ++ []) (book ++ []) r b′ left book-left =
+        coe 0 1 (i. ArrivePromise b hop (sym same i) (sym same′ i) r b′ left book-left) promise in
+        let N = reached-arrive P planned R hop h k lent-all in
+        let stays = N .hops-stay ∙ append-nil _ in
+        let stays′ = N .book-stays ∙ append-nil _ in
+        coe 0 1 (i. Called P (past ++ answered (Arrive hop ((ap length same ∙ hops-whole P planned R) i)
+        ((ap length same′ ∙ book-whole P planned R) i)) (arriveAnswer r) ∷ [])
+        b′ (sym stays i) (sym stays′ i)) (arrives C hop h k lent-all)
 
   -- one event
-  module _ {past : List Answered} {p : Progress} {b b′ : Bench} {hops left : List Hop} {book : List ℕ} (W : Whole P past b hops book)
+  module _ {past : List Answered} {p : Progress} {b b′ : Bench} {hops left : List Hop} {book : List ℕ} (C : Called P past b hops book)
       (sum : p .taken ≡ takenTotal past) where
-    ran-send : (r : Sent) (s g w : ℕ) → SendPromise b s g w hops (r .reply) b′ left → Ran P past (Send s g w 2000) p (afterSend p r) b′
+    ran-send : (r : Sent) (s g w : ℕ) → SendPromise b s g w hops (r .reply) b′ left
+        → Ran P past (Send s g w 2000) p (afterSend p r) b′
         left book
     unfolding afterSend takenTotal carriedBy
     ran-send r s g w promise = record {
       answer = sendAnswer (r .reply);
-      whole = whole-send s g w W promise;
+      chain = whole-send C s g w promise;
       lines = λ k. send-lines k (r .reply);
       sum = omega (arith, sum, sum-snoc carriedBy past (answered (Send s g w 2000) (sendAnswer (r .reply))), send-carries (r .reply));
       at = refl;
@@ -221,11 +206,11 @@ module _ (P : Plan) (planned : Planned P) where
     unfolding afterArrive takenTotal carriedBy
     ran-arrive r hop promise =
         let a = arriveAnswer (r .reply) in
-        let next-whole = whole-arrive hop W promise in
+        let next-chain = whole-arrive C hop promise in
         let total = sum-snoc carriedBy past (answered (Arrive hop 2000 6400) a) in
-        let few = taken-few (next-whole .chain) in record {
+        let few = taken-few next-chain in record {
           answer = a;
-          whole = next-whole;
+          chain = next-chain;
           lines = λ k. arrive-lines k (r .reply);
           sum = plus-small (p .taken) (carried a) (omega (arith, sum, total, few)) ∙ omega (arith, sum, total);
           at = refl;
@@ -235,20 +220,22 @@ module _ (P : Plan) (planned : Planned P) where
 
   ran-event : {past : List Answered} {p q : Progress} {b b₁ : Bench} {x : Event} {hops hops₁ : List Hop} {book book₁ : List ℕ}
       (e : FileEvent)
-      → x ≡ numbered e → EventRun p b x hops book q b₁ hops₁ book₁ → Whole P past b hops book → p .taken ≡ takenTotal past
+      → x ≡ numbered e → EventRun p b x hops book q b₁ hops₁ book₁ → Called P past b hops book
+      → p .taken ≡ takenTotal past
       → Ran P past (callFor e) p q b₁ hops₁ book₁
   unfolding numbered isSend callFor
-  ran-event {b = b} {b₁ = b₁} {hops = hops} {hops₁ = hops₁} (SendEvent s g w) same (sent r t promise) W sum =
+  ran-event {b = b} {b₁ = b₁} {hops = hops} {hops₁ = hops₁} (SendEvent s g w) same (sent r t promise) C sum =
       let less : suc s - 1 ≡ s = omega arith in
-      ran-send W sum r s g w
+      ran-send C sum r s g w
       (coe 0 1 (i. SendPromise b ((ap (λ (x : Event). x .first - 1) same ∙ less) i) (same i .second) (same i .third) hops (r .reply) b₁
       hops₁) promise)
-  ran-event (SendEvent s g w) same (arrived r t promise) W sum =
+  ran-event (SendEvent s g w) same (arrived r t promise) C sum =
       absurd (clash (ap isSend same ∙ ap not (ne-eqb (suc s) 0 (suc-ne-zero s))) t)
-  ran-event (ArriveEvent hop) same (sent r t promise) W sum = absurd (clash t (ap isSend same))
-  ran-event {b = b} {b₁ = b₁} {hops = hops} {hops₁ = hops₁} {book = book} {book₁ = book₁} (ArriveEvent hop) same (arrived r t promise) W
+  ran-event (ArriveEvent hop) same (sent r t promise) C sum = absurd (clash t (ap isSend same))
+  ran-event {b = b} {b₁ = b₁} {hops = hops} {hops₁ = hops₁} {book = book} {book₁ = book₁} (ArriveEvent hop) same
+      (arrived r t promise) C
       sum =
-      ran-arrive W sum r hop (subst (λ (x : Event). ArrivePromise b (x .second) hops book (r .reply) b₁ hops₁ book₁) same promise)
+      ran-arrive C sum r hop (subst (λ (x : Event). ArrivePromise b (x .second) hops book (r .reply) b₁ hops₁ book₁) same promise)
 
 -- ---- from one event to the next
 
@@ -271,23 +258,27 @@ going-inside p list t = ltb-true (3 * p .count) (length list) (and-right (ltb (p
 -- one event, and then the others
 joined-events : {P : Plan} {past : List Answered} {e : FileEvent} {es : List FileEvent} {p q r s : Progress} {b₁ b₂ : Bench}
     {hops₁ hops₂ : List Hop}
-    {book₁ book₂ out out₁ out₂ : List ℕ} (one : Ran P past (callFor e) p q b₁ hops₁ book₁) → Noted q out r out₁ → WentOn q r
-    → EventsLeft P (past ++ answered (callFor e) (one .answer) ∷ []) es r out₁ s b₂ hops₂ book₂ out₂ → EventsLeft P past (e ∷ es) p out s
+    {book₁ book₂ out out₁ out₂ : List ℕ} (one : Ran P past (callFor e) p q b₁ hops₁ book₁)
+    → Noted q out r out₁ → WentOn q r
+    → EventsLeft P (past ++ answered (callFor e) (one .answer) ∷ []) es r out₁ s b₂ hops₂ book₂ out₂
+    → EventsLeft P past (e ∷ es) p out s
     b₂ hops₂ book₂ out₂
 unfolding refusedEvents callOf
-joined-events {P} {past} {e} {p = p} {q} {r} {s} {b₂ = b₂} {hops₂ = hops₂} {book₂ = book₂} {out = out} {out₁} {out₂} one N on rest =
+joined-events {P} {past} {e} {p = p} {q} {r} {s} {b₂ = b₂} {hops₂ = hops₂} {book₂ = book₂} {out = out} {out₁}
+    {out₂} one N on rest =
     let a = one .answer in
     let x = answered (callFor e) a in
     let same = append-snoc past x (rest .new) in
     let lines : refusalLines (q .line) (q .refusal) ≡ refusedAs (p .line) a = one .lines (q .line) ∙ ap (λ (k : ℕ). refusedAs k a)
     (one .line) in record {
       new = x ∷ rest .new;
-      whole = subst (λ (l : List Answered). Whole P l b₂ hops₂ book₂) same (rest .whole);
+      chain = subst (λ (l : List Answered). Called P l b₂ hops₂ book₂) same (rest .chain);
       calls = λ i. callFor e ∷ rest .calls i;
       prints = subst (λ (t : List ℕ). Written t (p .at) out (s .at) out₂)
           (sym (ended-append (refusedAs (p .line) a) (refusedEvents (suc (p .line)) (rest .new))))
           (written-append (coe 0 1 (i. Written (ended (lines i)) (one .at i) out (r .at) out₁) (N .prints))
-          (subst (λ (k : ℕ). Written (ended (refusedEvents k (rest .new))) (r .at) out₁ (s .at) out₂) (on .line ∙ ap suc (one .line))
+          (subst (λ (k : ℕ). Written (ended (refusedEvents k (rest .new))) (r .at) out₁ (s .at) out₂)
+          (on .line ∙ ap suc (one .line))
           (rest .prints)));
       sum = rest .sum ∙ ap takenTotal same;
     }
@@ -295,29 +286,32 @@ joined-events {P} {past} {e} {p = p} {q} {r} {s} {b₂ = b₂} {hops₂ = hops�
 -- ---- all events
 
 module _ (P : Plan) (planned : Planned P) where
-  pub events-run : (past : List Answered) (es : List FileEvent) {list : List ℕ} {p q : Progress} {b b′ : Bench} {hops hops′ : List Hop}
+  pub events-run : (past : List Answered) (es : List FileEvent) {list : List ℕ} {p q : Progress} {b b′ : Bench}
+      {hops hops′ : List Hop}
       {book book′ out out′ : List ℕ}
-      → EventsRun list p b hops book out q b′ hops′ book′ out′ → Whole P past b hops book → drop (3 * p .count) list ≡ numbersOf es
+      → EventsRun list p b hops book out q b′ hops′ book′ out′ → Called P past b hops book
+      → drop (3 * p .count) list ≡ numbersOf es
       → p .count + length es ≤ 3000 → p .line + length es ≤ 65535 → p .taken ≡ takenTotal past
       → EventsLeft P past es p out q b′ hops′ book′ out′
   unfolding numbersOf refusedEvents ended callOf eventAt
-  events-run past [] {q = q} {b′ = b′} {hops′ = hops′} {book′ = book′} {out = out} (over stop) W numbers few lines sum = record {
-    new = [];
-    whole = subst (λ (l : List Answered). Whole P l b′ hops′ book′) (sym (append-nil past)) W;
-    calls = refl;
-    prints = written-none (q .at) out;
-    sum = sum ∙ ap takenTotal (sym (append-nil past));
-  }
-  events-run past (e ∷ es) {list} {p = p} (over stop) W numbers few lines sum =
+  events-run past [] {q = q} {b′ = b′} {hops′ = hops′} {book′ = book′} {out = out} (over stop) C numbers
+      few lines sum = record {
+        new = [];
+        chain = subst (λ (l : List Answered). Called P l b′ hops′ book′) (sym (append-nil past)) C;
+        calls = refl;
+        prints = written-none (q .at) out;
+        sum = sum ∙ ap takenTotal (sym (append-nil past));
+      }
+  events-run past (e ∷ es) {list} {p = p} (over stop) C numbers few lines sum =
       absurd (clash (still-going p list (omega arith) (event-there list (3 * p .count) e (numbersOf es) numbers .inside)) stop)
-  events-run past [] {list} {p = p} (next goes E N R) W numbers few lines sum =
+  events-run past [] {list} {p = p} (next goes E N R) C numbers few lines sum =
       absurd (omega (arith, going-inside p list goes, length-drop (3 * p .count) list, ap length numbers))
-  events-run past (e ∷ es) {list} {p = p} (next {r = r} goes E N R) W numbers few lines sum =
+  events-run past (e ∷ es) {list} {p = p} (next {r = r} goes E N R) C numbers few lines sum =
       let there = event-there list (3 * p .count) e (numbersOf es) numbers in
-      let one = ran-event P planned e (there .event) E W sum in
+      let one = ran-event P planned e (there .event) E C sum in
       let on = went-on N (omega (arith, one .count, few)) (omega (arith, one .line, lines)) in
       let place : 3 * r .count ≡ 3 * p .count + 3 = omega (arith, on .count, one .count) in
       joined-events one N on (events-run (past ++ answered (callFor e) (one .answer) ∷ []) es R
-      (one .whole)
+      (one .chain)
       (ap (λ (n : ℕ). drop n list) place ∙ there .behind)
       (omega (arith, on .count, one .count, few)) (omega (arith, on .line, one .line, lines)) (on .taken ∙ one .sum))

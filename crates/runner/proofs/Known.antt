@@ -108,7 +108,8 @@ module _ {M : Type 1} (𝓤 : URA M) (H : Heap 𝓤) (A : Atoms 𝓤) where
       (λ d r es. Noted (d .0) (d .1 .0) r (es .0))
 
   -- `-shown` is for one that holds the tables in an array of its own
-  abbrev EventsSaid : Progress.the-row .Denot → List ℕ → List ℕ → List ℕ → List (List (List ℕ)) → List ℕ → List Hop → List ℕ → List ℕ →
+  abbrev EventsSaid : Progress.the-row .Denot → List ℕ → List ℕ → List ℕ → List (List (List ℕ)) → List ℕ → List Hop
+      → List ℕ → List ℕ →
       Progress.the-row .Denot
       → List ℕ × (List (List (List ℕ)) × (List ℕ × (List Hop × (List ℕ × (List ℕ × Unit {0}))))) → Type 0
   EventsSaid p list ts ms ps gs hs book out r es =
@@ -118,7 +119,8 @@ module _ {M : Type 1} (𝓤 : URA M) (H : Heap 𝓤) (A : Atoms 𝓤) where
   abbrev pub run-events-callee : RelationalCallee 𝓤 H A
   run-events-callee =
       promising 𝓤 H A 8 (value Progress.the-row by-progress ∷ relayed 0 tt u16 (by-uint w16) ∷ relayed 1 tt u32 (by-uint w32) ∷
-      lent 2 tt u32 ∷ lent 3 tt Grid ∷ lent 4 tt u16 ∷ lent 5 tt R ∷ lent 6 tt u16 ∷ lent 7 tt u8 ∷ []) Progress.the-row by-progress
+      lent 2 tt u32 ∷ lent 3 tt Grid ∷ lent 4 tt u16 ∷ lent 5 tt R ∷ lent 6 tt u16 ∷ lent 7 tt u8 ∷ [])
+      Progress.the-row by-progress
       (λ d r es. let l = d .1 .1 in
       EventsSaid (d .0) (d .1 .0) (l .0) (l .1 .0) (l .1 .1 .0) (l .1 .1 .1 .0) (l .1 .1 .1 .1 .0) (l .1 .1 .1 .1 .1 .0)
       (l .1 .1 .1 .1 .1 .1 .0) r es)
@@ -126,7 +128,8 @@ module _ {M : Type 1} (𝓤 : URA M) (H : Heap 𝓤) (A : Atoms 𝓤) where
   abbrev pub run-events-shown-callee : RelationalCallee 𝓤 H A
   run-events-shown-callee =
       promising 𝓤 H A 8 (value Progress.the-row by-progress ∷ relayed 0 tt u16 (by-uint w16) ∷ shown 1 tt u32 ∷
-      lent 2 tt u32 ∷ lent 3 tt Grid ∷ lent 4 tt u16 ∷ lent 5 tt R ∷ lent 6 tt u16 ∷ lent 7 tt u8 ∷ []) Progress.the-row by-progress
+      lent 2 tt u32 ∷ lent 3 tt Grid ∷ lent 4 tt u16 ∷ lent 5 tt R ∷ lent 6 tt u16 ∷ lent 7 tt u8 ∷ [])
+      Progress.the-row by-progress
       (λ d r es. let l = d .1 .1 in
       EventsSaid (d .0) (d .1 .0) (l .0) (l .1 .0) (l .1 .1 .0) (l .1 .1 .1 .0) (l .1 .1 .1 .1 .0) (l .1 .1 .1 .1 .1 .0)
       (l .1 .1 .1 .1 .1 .1 .0) r es)
@@ -142,8 +145,8 @@ module _ {M : Type 1} (𝓤 : URA M) (H : Heap 𝓤) (A : Atoms 𝓤) where
   -- of benches.rt
   abbrev pub run-hops-callee : RelationalCallee 𝓤 H A
   run-hops-callee =
-      promising 𝓤 H A 4 (plan-and (relayed 0 tt u16 (by-uint w16) ∷ lent 1 tt R ∷ lent 2 tt u16 ∷ lent 3 tt u8 ∷ [])) Totals.the-row
-      by-totals
+      promising 𝓤 H A 4 (plan-and (relayed 0 tt u16 (by-uint w16) ∷ lent 1 tt R ∷ lent 2 tt u16 ∷ lent 3 tt u8 ∷ []))
+      Totals.the-row by-totals
       (λ d r es. let l = d .1 .1 .1 .1 in BenchRun (d .0) (d .1 .1 .0) (d .1 .0) (d .1 .1 .1 .0) (l .0) (l .1 .0) (l .1 .1 .0)
       (l .1 .1 .1 .0) r (es .0) (es .1 .0) (es .1 .1 .0))
 

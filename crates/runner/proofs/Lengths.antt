@@ -100,7 +100,8 @@ table-length m (suc n) f h =
 -- ---- all lines
 
 lines-fit : (k : ℕ) (past : List Answered) (units : ℕ) (logs : ℕ → List ℕ) (hops : ℕ) (rest : Bool)
-    → length past ≤ 3000 → units ≤ 32 → ((u : ℕ) → length (logs u) ≤ 200) → length (ended (runLines k past units logs hops rest)) ≤ 98740
+    → length past ≤ 3000 → units ≤ 32 → ((u : ℕ) → length (logs u) ≤ 200)
+    → length (ended (runLines k past units logs hops rest)) ≤ 98740
 unfolding runLines logLines ended
 lines-fit k past units logs hops rest few small short =
     let events = refusedEvents k past in

@@ -13,8 +13,8 @@ use Rattle.sets.proofs.Bools.{either}
 use Rattle.text.specs.Text.{split, inFront}
 use Rattle.lines.specs.Lines.{refuse, unitsKey, groupsKey, countIn, unitsFault, groupsFault, groupFault, groupIn, parentsFault, parentsIn}
 use Rattle.lines.specs.Lines.{eventFault, eventIn}
-use Rattle.benchfile.specs.File.{State, UnitsDue, GroupsDue, GroupDue, EventDue, Stopped, next, step, Outcome, Refused, Good, finish, steps}
-use Rattle.benchfile.specs.File.{readFile}
+use Rattle.benchfile.specs.File.{State, UnitsDue, GroupsDue, GroupDue, EventDue, Stopped, next, step, Outcome, Refused, Good, finish}
+use Rattle.benchfile.specs.File.{steps, readFile}
 
 -- ---- the pieces of a text are at most one more than its bytes
 

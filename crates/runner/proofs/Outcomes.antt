@@ -53,7 +53,8 @@ module _ {c : Content} {line n : ℕ} {list out left : List ℕ} {r : RunAnswer}
     (is : n ≡ numberIn (refusal v)) where
   pub content-refused : (n ≡ 0 → ⊥) → PrintedAs (refusedLine line n ++ 10 ∷ []) 0 out r left → ContentRun c line list out r left
   content-refused some P = record {
-    refused = λ number values e. subst (λ (k : ℕ). PrintedAs (refusedLine line k ++ 10 ∷ []) 0 out r left) (is ∙ ap numberIn (same ∙ e)) P;
+    refused = λ number values e. subst (λ (k : ℕ). PrintedAs (refusedLine line k ++ 10 ∷ []) 0 out r left)
+        (is ∙ ap numberIn (same ∙ e)) P;
     ran = λ e es _ few. absurd (some (is ∙ ap numberIn (same ∙ e)));
   }
 
@@ -64,7 +65,8 @@ module _ {c : Content} {line n : ℕ} {list out left : List ℕ} {r : RunAnswer}
   content-ran {book} {book′} {hops} {t} ps none parents places size B said = record {
     refused = λ number values e. absurd (suc-ne-zero (length values) (ap length (sym e ∙ sym same ∙ no-number v (sym is ∙ none))));
     ran = λ e es listed few.
-        let B′ = subst (λ (qs : List ℕ). BenchRun (c .units) (c .count) (c .groups) qs list (replicate 2000 noHop) book out t hops book′
+        let B′ = subst (λ (qs : List ℕ). BenchRun (c .units) (c .count) (c .groups) qs list (replicate 2000 noHop)
+        book out t hops book′
         left) parents B in
         let S = bench-run c es e places listed few (length-replicate 2000 noHop) size B′ in
         record { place = t .bytes; says = said .0; prints = S .0; sum = said .1 ∙ S .1 };
@@ -81,7 +83,8 @@ run-short file out short = record {
 }
 
 -- the text of the file's lines was printed to a list that is long enough
-run-printed : (file out left : List ℕ) (r : RunAnswer) → 98740 ≤ length out → PrintedAs (printed file) (takenBy (result file)) out r left →
+run-printed : (file out left : List ℕ) (r : RunAnswer) → 98740 ≤ length out
+    → PrintedAs (printed file) (takenBy (result file)) out r left →
     RunPromise file out r left
 unfolding outputShort writeSays writeLeaves
 run-printed file out left r long P =
@@ -93,7 +96,8 @@ run-printed file out left r long P =
     }
 
 -- what a file comes to, and what is printed of it
-from-result : (file text out left : List ℕ) (n : ℕ) (r : RunAnswer) → 98740 ≤ length out → text ≡ printed file → n ≡ takenBy (result file)
+from-result : (file text out left : List ℕ) (n : ℕ) (r : RunAnswer) → 98740 ≤ length out → text ≡ printed file
+    → n ≡ takenBy (result file)
     → PrintedAs text n out r left
     → RunPromise file out r left
 from-result file text out left n r long e q P =
@@ -194,12 +198,14 @@ module _ (file list events : List ℕ) (a : ReadAnswer) (size : length list ≡ 
           from-result file _ out left _ r long (sym (ap (λ (x : Result). ended (resultLines x)) q)) (sym (ap takenBy q))
           (C .ran e (F .events) refl (read-good 9000 file F good .total)))
           (λ (x : (number : ℕ) × (values : List ℕ) × (forestRefusal (contentOf F) ≡ number ∷ values)).
-          let q : result file ≡ RefusedAt (3 + length (F .groups)) (x .0) = ap resultOf good ∙ ap (λ (l : List ℕ). onForest l F) (x .2) in
+          let q : result file ≡ RefusedAt (3 + length (F .groups)) (x .0) = ap resultOf good
+          ∙ ap (λ (l : List ℕ). onForest l F) (x .2) in
           from-result file _ out left _ r long (sym (ap (λ (y : Result). ended (resultLines y)) q)) (sym (ap takenBy q))
           (C .refused (x .0) (x .1) (x .2)))
           (list-cases (forestRefusal (contentOf F)))
 
-    pub run-read : n ≡ 0 → ContentRun (a .content) l (take (countOf (readAnswer (a .reply))) events) out r left → RunPromise file out r left
+    pub run-read : n ≡ 0 → ContentRun (a .content) l (take (countOf (readAnswer (a .reply))) events) out r left
+        → RunPromise file out r left
     unfolding numberOf
     run-read none C = ⊎-elim
         (λ (x : (refusal : List ℕ) × (readFile 9000 file ≡ Refused refusal)).

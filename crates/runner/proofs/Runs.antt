@@ -1,16 +1,17 @@
 -- A run from a fresh bench to its end prints the lines of the rules' run of these events, and sums what its answers count. Assumes nothing.
 use mathlib.Core.Path.{_≡_, refl, sym, ap, subst, _∙_}
 use mathlib.Core.Bool.{Bool}
-use mathlib.Core.List.{List, [], _∷_, _++_, append-assoc, map}
+use mathlib.Core.List.{List, [], _∷_, _++_, append-nil, append-assoc, map}
 use Prim.Native.Nat.{ℕ, _+_, _%_, _≤_}
 use native.Mathlib.Omega.{arith}
-use lib.ListN.{length}
+use lib.ListN.{length, take, drop, length-append, length-drop}
+use lib.Seq.{take-all}
 use Rattle.text.specs.Writing.{Written}
 use Rattle.text.proofs.Written.{written-append}
 use Rattle.model.specs.declared.Hop.{Hop}
-use Rattle.model.specs.Network.{Plan, Network, hopsOf, logOf, sumOf}
+use Rattle.model.specs.Network.{Plan, Network, fresh, hopsOf, logOf, sumOf}
 use Rattle.model.specs.Rules.{quiescent}
-use Rattle.model.specs.Calls.{Call, Answered, run, networkOf, historyOf}
+use Rattle.model.specs.Calls.{Call, Answered, run, runFrom, networkOf, historyOf}
 use Rattle.model.specs.Demand3.{Planned, takenTotal}
 use Rattle.model.specs.Claims.{callOf}
 use Rattle.model.proofs.Replies.{rest-answers}
@@ -20,11 +21,11 @@ use Rattle.forest_tables.specs.Computed.{unitCount}
 use Rattle.forest_tables.proofs.Columns.{units-in}
 use Rattle.bench_promises.specs.declared.replies.RestReply.{RestReply}
 use Rattle.bench_promises.specs.Replies.{restAnswer}
-use Rattle.bench_promises.specs.State.{Bench, benchOf, totalsOf}
-use Rattle.bench_promises.specs.Promises.{after, RestPromise}
+use Rattle.bench_promises.specs.State.{Bench, hopRecords, logBook, benchOf, totalsOf}
+use Rattle.bench_promises.specs.Promises.{after, RestPromise, LogPromise}
 use Rattle.bench_promises.specs.Chains.{Called, begun}
 use Rattle.bench_promises.proofs.Padding.{plus-small}
-use Rattle.bench_promises.proofs.Reached.{fresh-state}
+use Rattle.bench_promises.proofs.Reached.{hop-records-length, log-book-length}
 use Rattle.bench_promises.proofs.Theorems.{handed-log, reached, same-calls, list-history, list-log, list-rest}
 use Rattle.lines.specs.Lines.{Event as FileEvent}
 use Rattle.benchfile.specs.File.{ended}
@@ -39,7 +40,7 @@ use Rattle.runner.specs.declared.events.Progress.{Progress}
 use Rattle.runner.specs.declared.results.Totals.{Totals}
 use Rattle.runner.proofs.Plans.{plan-planned, plan-units, plan-groups}
 use Rattle.runner.proofs.RunResults.{result-lines, result-taken}
-use Rattle.runner.proofs.EventRuns.{Whole, EventsLeft, events-run}
+use Rattle.runner.proofs.EventRuns.{EventsLeft, events-run}
 
 -- ---- what a run of the rules prints
 
@@ -65,12 +66,15 @@ module _ (P : Plan) (planned : Planned P) {past : List Answered} {b : Bench} {ho
 
   end-logs : HandsBack b book (λ u. logOf u (after P cs))
   unfolding after
-  end-logs u part promise = list-log P planned C cs e u part promise
+  end-logs u part promise =
+      list-log P planned C cs e u [] part (subst (λ (l : List ℕ). LogPromise b u l part) (sym (append-nil book)) promise)
       ∙ handed-log P u 6400 (networkOf (run P cs)) (limits P planned cs) (omega arith)
 
   end-rest : (r : RestReply) → RestPromise b hops r → saysRest (restAnswer r) ≡ quiescent (after P cs)
   unfolding saysRest after
-  end-rest r promise = ap saysRest (list-rest P planned C cs e r promise ∙ rest-answers 2000 (networkOf (run P cs)) (omega arith))
+  end-rest r promise = ap saysRest
+      (list-rest P planned C cs e [] r (subst (λ (l : List Hop). RestPromise b l r) (sym (append-nil hops)) promise)
+      ∙ rest-answers 2000 (networkOf (run P cs)) (omega arith))
 
 -- the logs, the hops and the rest of a state
 abbrev stateLines : ℕ → Network → List (List ℕ)
@@ -101,27 +105,35 @@ Shown result at out t left = Written (ended (resultLines result)) at out (t .byt
 -- the events of a run, and then its end
 run-shown : (P : Plan) → Planned P → P .units ≤ 32 → (es : List FileEvent) {p q : Progress} {b : Bench} {hops : List Hop}
     {book out out₁ left : List ℕ}
-    {r : RestReply} {t : Totals} → EventsLeft P [] es p out q b hops book out₁ → RestPromise b hops r → Finished q b r book out₁ t left
+    {r : RestReply} {t : Totals} → EventsLeft P [] es p out q b hops book out₁ → RestPromise b hops r
+    → Finished q b r book out₁ t left
     → Shown (RanFrom (p .line) P (run P (map callFor es))) (p .at) out t left
 unfolding after
 run-shown P planned few es {p} {q} {out = out} {out₁} {left} {t = t} E rests F =
     let cs = map callFor es in
     let k = p .line in
-    let history : E .new ≡ historyOf (run P cs) = list-history P planned (E .whole .chain) cs (E .calls) in
+    let history : E .new ≡ historyOf (run P cs) = list-history P planned (E .chain) cs (E .calls) in
     let text = ap ended (result-lines k P (run P cs)) ∙ run-lines-ended k (historyOf (run P cs)) (P .units) _ _ _ in (
       subst (λ (s : List ℕ). Written s (p .at) out (t .bytes) left) (sym text) (written-append
           (subst (λ (l : List Answered). Written (ended (refusedEvents k l)) (p .at) out (q .at) out₁) history (E .prints))
-          (end-lines P planned few (E .whole .chain) cs (E .calls) rests F)),
+          (end-lines P planned few (E .chain) cs (E .calls) rests F)),
       F .sum ∙ E .sum ∙ ap takenTotal history ∙ sym (result-taken k P (run P cs)),
     )
+
+-- all of a list of n was lent, and y was written
+all-of : {A : Type 0} (n : ℕ) (l left y : List A) → length y ≡ n → length l ≡ n → left ≡ y ++ drop n l
+    → take n left ≡ left
+all-of n l left y size all e =
+    take-all n left (omega (arith, ap length e, length-append y (drop n l), length-drop n l, size, all))
 
 -- whatever the 2,000 hops hold
 pub bench-run : (c : Content) (es : List FileEvent) {list book out : List ℕ} {hops : List Hop} {t : Totals} {hops′ : List Hop}
     {book′ left : List ℕ}
-    → forestRefusal c ≡ [] → length (c .groups) ≡ 24 → list ≡ numbersOf es → length es ≤ 3000 → length hops ≡ 2000 → length book ≡ 6400
+    → forestRefusal c ≡ [] → length (c .groups) ≡ 24 → list ≡ numbersOf es → length es ≤ 3000 → length hops ≡ 2000
+    → length book ≡ 6400
     → BenchRun (c .units) (c .count) (c .groups) (forestParents c) list hops book out t hops′ book′ left
     → Written (ended (resultLines (ranOn c es))) 0 out (t .bytes) left × (t .taken ≡ takenBy (ranOn c es))
-unfolding planOf ranOn begunWith takenTotal sumOf
+unfolding planOf ranOn begunWith takenTotal sumOf run runFrom networkOf
 bench-run c es {book = book} {out} {hops} {t} {left = left} accepted places same few size size′ B =
     let P = planOf c in
     let planned = plan-planned c accepted in
@@ -130,12 +142,11 @@ bench-run c es {book = book} {out} {hops} {t} {left = left} accepted places same
     let line = first-line (c .count) groups in
     let whole : 2000 ≤ length hops = omega (arith, size) in
     let whole′ : 6400 ≤ length book = omega (arith, size′) in
-    let N = fresh-state P planned hops (B .hops-fresh) book (B .book-fresh) (B .reply) (B .first) whole whole′ (B .begins) in
-    let W : Whole P [] (B .first) (B .hops-fresh) (B .book-fresh) = record {
-      chain = begun (B .begins) (B .begins .whole whole whole′ .0);
-      hops-whole = N .hops-length ∙ size;
-      book-whole = N .book-length ∙ size′;
-    } in
-    let E = events-run P planned [] es (B .runs) W same (omega (arith, few)) (omega (arith, line, few, groups)) refl in
+    let x = B .begins .whole whole whole′ in
+    let L = limits P planned [] in
+    let C : Called P [] (B .first) (B .hops-fresh) (B .book-fresh) =
+    coe 0 1 (i. Called P [] (B .first) (all-of 2000 hops (B .hops-fresh) (hopRecords fresh) (hop-records-length P fresh L) size (x .1) i)
+    (all-of 6400 book (B .book-fresh) (logBook fresh) (log-book-length P fresh L) size′ (x .2) i)) (begun (B .begins) (x .0)) in
+    let E = events-run P planned [] es (B .runs) C same (omega (arith, few)) (omega (arith, line, few, groups)) refl in
     subst (λ (k : ℕ). Shown (RanFrom k P (run P (map callFor es))) 0 out t left) line
     (run-shown P planned units es E (B .rests) (B .finishes))

@@ -10,9 +10,7 @@ use borrow.Author.Tests.{le-ltb}
 use lib.ListN.{length, take, length-take}
 use lib.Seq.{take-append-seam}
 use Rattle.sets.proofs.Bools.{either}
-use Rattle.model.specs.Network.{hopsOf, logOf}
-use Rattle.model.specs.Rules.{quiescent}
-use Rattle.model.specs.Calls.{run, networkOf, historyOf}
+use Rattle.model.specs.Calls.{run}
 use Rattle.model.proofs.Theorems.{demand-3, reading}
 use Rattle.benchfile.specs.File.{File, Good, readFile, ended}
 use Rattle.benchfile.specs.Calls.{WroteBytes, contentOf, writeSays, writeLeaves}
@@ -57,19 +55,13 @@ run-ordered file out r left p enough F e accepted =
     let P = planOf (contentOf F) in
     let cs = map callFor (F .events) in
     let k : ℕ = 4 + length (F .groups) in
-    let W = networkOf (run P cs) in
     let planned = plan-planned (contentOf F) accepted in
     let ran-so : result file ≡ RanFrom k P (run P cs) = ap resultOf e ∙ ap (λ (x : List ℕ). onForest x F) accepted in
     let (n, says, text, sum) = prints file out r left p enough (RanFrom k P (run P cs)) ran-so in (
       n,
       says,
       record {
-        past = historyOf (run P cs);
-        logs = λ u. logOf u W;
-        hops = length (hopsOf W);
-        rest = quiescent W;
         lines = text ∙ ap ended (result-lines k P (run P cs));
-        answers = refl;
         reading = reading P planned cs;
         total = sum ∙ result-taken k P (run P cs);
         ordered = demand-3 P planned cs;
@@ -85,7 +77,8 @@ run-refused file out r left p enough line number e = prints file out r left p en
 
 -- so many bytes as are answered are the text printed, and they stand in the list
 pub run-bytes : (file out : List ℕ) (r : RunAnswer) (left : List ℕ) → RunPromise file out r left
-    → (n : ℕ) → runAnswer (r .reply) ≡ WroteBytes n → (take n left ≡ printed file) × (n ≡ length (take n left)) × (n ≤ length left)
+    → (n : ℕ) → runAnswer (r .reply) ≡ WroteBytes n → (take n left ≡ printed file)
+    × (n ≡ length (take n left)) × (n ≤ length left)
 unfolding writeSays
 run-bytes file out r left p n e = ⊎-elim
     (λ (h : outputShort out ≡ true).

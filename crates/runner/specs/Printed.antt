@@ -82,7 +82,7 @@ refusedEvents k (answered c a ∷ past) = refusedAs k a ++ refusedEvents (suc k)
 unfoldable pub logLines : ℕ → (ℕ → List ℕ) → List (List ℕ)
 logLines n logs = tabulate n (λ u. logLine u (logs u))
 
--- the lines of a run: refused events; then for each unit its log; then the hops made; then whether the bench is at rest
+-- the lines of a run: refused events; then for each unit its log; then the number of hops; then rest or not
 unfoldable pub runLines : ℕ → List Answered → ℕ → (ℕ → List ℕ) → ℕ → Bool → List (List ℕ)
 runLines k past units logs hops rest =
     refusedEvents k past ++ logLines units logs ++ hopsLine hops ∷ restLine rest ∷ []
@@ -95,7 +95,7 @@ resultLines (RanFrom k P (ran W past)) = runLines k past (P .units) (λ u. logOf
 unfoldable pub printed : List ℕ → List ℕ
 printed file = ended (resultLines (result file))
 
--- the sum of the numbers carried by all answers of taken, as in demand 3; nothing is run of a refused file or forest
+-- the sum of the numbers carried by all answers of taken, as in demand 3; of a refusal, of file or forest, nothing is run
 unfoldable pub takenBy : Result → ℕ
 takenBy (RefusedAt line number) = 0
 takenBy (RanFrom k P (ran W past)) = takenTotal past

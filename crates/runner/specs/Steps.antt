@@ -96,10 +96,12 @@ afterArrive p r = record {
 }
 
 -- an event was run: from a progress, a bench, hops and a book to those left
-pub data EventRun (p : Progress) (b : Bench) (e : Event) (hops : List Hop) (book : List ℕ) : Progress → Bench → List Hop → List ℕ → Type 0
+pub data EventRun (p : Progress) (b : Bench) (e : Event) (hops : List Hop) (book : List ℕ) : Progress → Bench → List Hop
+    → List ℕ → Type 0
   where
     sent : (r : SentAnswer) {left : Bench} {hops-left : List Hop} → isSend e ≡ true
-        → SendPromise b (e .first - 1) (e .second) (e .third) hops (r .reply) left hops-left → EventRun p b e hops book (afterSend p r) left
+        → SendPromise b (e .first - 1) (e .second) (e .third) hops (r .reply) left hops-left
+        → EventRun p b e hops book (afterSend p r) left
         hops-left book
     arrived : (r : ArrivedAnswer) {left : Bench} {hops-left : List Hop} {book-left : List ℕ} → isSend e ≡ false
         → ArrivePromise b (e .second) hops book (r .reply) left hops-left book-left → EventRun p b e hops book (afterArrive p r) left
@@ -120,24 +122,28 @@ pub record Noted (p : Progress) (out : List ℕ) (r : Progress) (left : List ℕ
 
 -- ---- all events
 
-pub data EventsRun (list : List ℕ) : Progress → Bench → List Hop → List ℕ → List ℕ → Progress → Bench → List Hop → List ℕ → List ℕ → Type 0
+pub data EventsRun (list : List ℕ) : Progress → Bench → List Hop → List ℕ → List ℕ → Progress → Bench → List Hop
+    → List ℕ → List ℕ → Type 0
   where
     over : {p : Progress} {b : Bench} {hops : List Hop} {book out : List ℕ} → isGoing (p .count) list ≡ false
         → EventsRun list p b hops book out p b hops book out
-    next : {p q r s : Progress} {b b₁ b₂ : Bench} {hops hops₁ hops₂ : List Hop} {book book₁ book₂ out out₁ out₂ : List ℕ} → isGoing
+    next : {p q r s : Progress} {b b₁ b₂ : Bench} {hops hops₁ hops₂ : List Hop} {book book₁ book₂ out out₁ out₂ : List ℕ}
+        → isGoing
         (p .count) list ≡ true
         → EventRun p b (eventAt (p .count) list) hops book q b₁ hops₁ book₁ → Noted q out r out₁
-        → EventsRun list r b₁ hops₁ book₁ out₁ s b₂ hops₂ book₂ out₂ → EventsRun list p b hops book out s b₂ hops₂ book₂ out₂
+        → EventsRun list r b₁ hops₁ book₁ out₁ s b₂ hops₂ book₂ out₂
+        → EventsRun list p b hops book out s b₂ hops₂ book₂ out₂
 
 -- ---- the logs, the hops and the rest
 
--- what log hands back for each unit, whatever it is, is `logs`
+-- what log hands back, whatever the unit is, is `logs`
 abbrev pub HandsBack : Bench → List ℕ → (ℕ → List ℕ) → Type 0
 HandsBack b book logs = (unit : ℕ) (part : List ℕ) → LogPromise b unit book part → part ≡ logs unit
 
 -- the log of a unit, and those of the first units
 abbrev pub UnitPut : Bench → ℕ → List ℕ → List ℕ → ℕ → ℕ → List ℕ → Type 0
-UnitPut b unit book out at place left = (logs : ℕ → List ℕ) → HandsBack b book logs → Written (logLine unit (logs unit) ++ 10 ∷ []) at out
+UnitPut b unit book out at place left = (logs : ℕ → List ℕ) → HandsBack b book logs
+    → Written (logLine unit (logs unit) ++ 10 ∷ []) at out
     place left
 
 abbrev pub LogsPut : Bench → List ℕ → List ℕ → ℕ → ℕ → List ℕ → Type 0
@@ -151,7 +157,8 @@ saysRest (Rest b) = b
 -- the end of a run was printed
 pub record Finished (p : Progress) (b : Bench) (rest : RestReply) (book out : List ℕ) (r : Totals) (left : List ℕ) : Type 0 where
   pub prints : unitCount (b .tables) ≤ 32 → (logs : ℕ → List ℕ) → HandsBack b book logs
-      → Written (ended (logLines (unitCount (b .tables)) logs ++ hopsLine (b .totals .made) ∷ restLine (saysRest (restAnswer rest)) ∷ []))
+      → Written (ended (logLines (unitCount (b .tables)) logs ++ hopsLine (b .totals .made) ∷
+      restLine (saysRest (restAnswer rest)) ∷ []))
       (p .at) out (r .bytes) left
   pub sum : r .taken ≡ p .taken
 

@@ -28,7 +28,7 @@ pub struct Progress {
     pub refusal: u8,
 }
 
-// An event as it stands in the list (document 01): a send is source+1, group, word, an arrive 0, hop, 0.
+// An event as it stands in the list (document 01): of a send source+1, group and word, of an arrival 0, hop and 0.
 pub struct Event {
     pub first: u16,
     pub second: u16,
@@ -142,7 +142,7 @@ fn arrive_refusal(reply: ArriveReply) -> u8
     }
 }
 
-// The number that an answer of taken carries; held, repeat and refusal carry none.
+// The number carried by a taken answer; held, repeat and refusal carry none.
 fn carried_by(reply: ArriveReply) -> u16
     ensures { λ r. ⌜ r ≡ carried (arriveAnswer reply) ⌝ }
 {

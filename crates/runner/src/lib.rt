@@ -13,7 +13,7 @@ ghost use Rattle.benchfile.specs.Calls.{WroteBytes};
 ghost use Rattle.runner.specs.Printed.{RunPromise, runAnswer};
 ghost use Rattle.runner.specs.Steps.{PrintedAs, ContentRun};
 
-// What `run` says: how many bytes it printed. `runAnswer` of specs/Printed.antt gives document 01's number and values for each case.
+// What `run` says: how many bytes it printed. `runAnswer` of specs/Printed.antt gives document 01's number and the values of each case.
 pub enum RunReply {
     Printed(usize),
     ListTooShort,
@@ -74,7 +74,7 @@ fn run_content(content: Content, line: u16, list: &[u16], out: &mut [u8]) -> Run
     printed(totals.bytes, totals.taken)
 }
 
-// Reads a bench file, runs it, and prints at the start of a lent list of at least RunAnswer::OUTPUT bytes; the rest of the list stays.
+// Reads a bench file, runs it, and prints to the front of a list of at least RunAnswer::OUTPUT bytes; the rest of the list stays.
 pub fn run(file: &[u8], out: &mut [u8]) -> RunAnswer
     ensures { λ r. ⌜ RunPromise (now (file .entry)) (now (out .entry)) r (now (out .exit)) ⌝ }
 {

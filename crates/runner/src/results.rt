@@ -52,7 +52,7 @@ fn put_logs(tables: &[u32], gauges: &[u16], book: &[u16], out: &mut [u8], at: us
     next
 }
 
-// Whether a bench is at rest.
+// Does the reply say rest?
 fn is_rest(reply: RestReply) -> bool
     ensures { λ r. ⌜ r ≡ saysRest (restAnswer reply) ⌝ }
 {

@@ -1,5 +1,5 @@
-// The program: a bench file from standard input is run, and what it prints goes to standard output. One byte more than a file may have is read, so
-// that a file which is too long is seen to be.
+// The program: a bench file on standard input is run, and what it prints goes to standard output. One byte more than a file may have is
+// read, so that a file which is too long is seen to be.
 use libc::STDIN_FILENO;
 use libc::STDOUT_FILENO;
 use runner::RunAnswer;

@@ -44,7 +44,8 @@ module _ (f : Content → List ℕ) (before : List ℕ) where
   changes (Good F) n line e = refl
 
 -- the answer tells what `read` said
-module _ (r : ReadReply) (o : Outcome) (said : readAnswer r ≡ readSays o) (a : Answer) (told : numbersOf a ≡ toldBy (readAnswer r) 0) where
+module _ (r : ReadReply) (o : Outcome) (said : readAnswer r ≡ readSays o) (a : Answer)
+    (told : numbersOf a ≡ toldBy (readAnswer r) 0) where
   number-is : a .refusal ≡ numberIn (readAnswer r)
   unfolding numbersOf
   number-is = ap (λ (l : List ℕ). getD l 0 0) told

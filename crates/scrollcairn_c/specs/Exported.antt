@@ -1,4 +1,5 @@
--- What the exported calls promise (include/scrollcairn.h): what each answers and leaves in all that it is lent, for every input. Definitions only.
+-- What the exported calls promise (include/scrollcairn.h): what each answers and leaves in all that it is lent, for every input.
+-- Definitions only.
 use Prim.Native.Nat.{ℕ, _+_, _*_, _%_}
 use mathlib.Core.Path.{_≡_}
 use mathlib.Core.Bool.{not, cond}
@@ -49,7 +50,8 @@ unfoldable pub storedOf : (Content → List ℕ) → Outcome → List ℕ → Li
 storedOf f (Refused refusal) before = before
 storedOf f (Good F) before = f (contentOf F)
 
-pub record ReadExported (file events groups parents counts events-left groups-left parents-left counts-left answer : List ℕ) : Type 0 where
+pub record ReadExported (file events groups parents counts events-left groups-left parents-left counts-left answer : List ℕ) : Type
+    0 where
   pub answers : answer ≡ toldBy (readSays (readFile (length events) file)) 0
   pub leaves-events : events-left ≡ readLeaves (readFile (length events) file) events
   pub leaves-groups : groups-left ≡ storedOf (λ c. c .groups) (readFile (length events) file) groups

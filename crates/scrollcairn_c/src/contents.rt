@@ -16,7 +16,8 @@ fn number(b: bool) -> u16
 
 // Stores a content.
 pub fn put(content: Content, groups: &mut [u32; 24], parents: &mut [u8; 32], counts: &mut [u16; 4])
-    ensures { λ _. ⌜ (now (groups .exit) ≡ content .groups) × (now (parents .exit) ≡ content .parents) × (now (counts .exit) ≡ countsOf content) ⌝ }
+    ensures { λ _. ⌜ (now (groups .exit) ≡ content .groups) × (now (parents .exit) ≡ content .parents)
+        × (now (counts .exit) ≡ countsOf content) ⌝ }
 {
     let sets = content.groups;
     *groups = sets;

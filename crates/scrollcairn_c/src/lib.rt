@@ -1,9 +1,10 @@
-// The calls of include/scrollcairn.h, for C and C++. Each is equated to the rules by a promise (specs/Exported.antt).
+// The calls of include/scrollcairn.h, for C and C++. The promise of each equates it to the rules (specs/Exported.antt).
 mod answers;
 mod contents;
 
 ghost use Rattle.call_replay.specs.Rules.{given};
-ghost use Rattle.scrollcairn_c.specs.Exported.{RunExported, BuildExported, CheckExported, ReadExported, WriteExported, CallsExported};
+ghost use Rattle.scrollcairn_c.specs.Exported.{RunExported, BuildExported, CheckExported, ReadExported, WriteExported};
+ghost use Rattle.scrollcairn_c.specs.Exported.{CallsExported};
 
 // Runs a bench file.
 #[no_mangle]
@@ -23,7 +24,8 @@ pub extern "C" fn scrollcairn_build(
     parents: &mut [u8; 32],
     answer: &mut [u64; 3],
 )
-    ensures { λ _. ⌜ BuildExported units (now (groups .entry)) count (now (parents .entry)) (now (parents .exit)) (now (answer .exit)) ⌝ }
+    ensures { λ _. ⌜ BuildExported units (now (groups .entry)) count (now (parents .entry)) (now (parents .exit))
+        (now (answer .exit)) ⌝ }
 {
     let table = *groups;
     let built = forest::build(units, table, count);
@@ -59,7 +61,8 @@ pub extern "C" fn scrollcairn_read(
     counts: &mut [u16; 4],
     answer: &mut [u64; 3],
 )
-    ensures { λ _. ⌜ ReadExported (now (file .entry)) (now (events .entry)) (now (groups .entry)) (now (parents .entry)) (now (counts .entry))
+    ensures { λ _. ⌜ ReadExported (now (file .entry)) (now (events .entry)) (now (groups .entry))
+        (now (parents .entry)) (now (counts .entry))
         (now (events .exit)) (now (groups .exit)) (now (parents .exit)) (now (counts .exit)) (now (answer .exit)) ⌝ }
 {
     let read = benchfile::read(file, events);
@@ -84,7 +87,8 @@ pub extern "C" fn scrollcairn_write(
     out: &mut [u8],
     answer: &mut [u64; 3],
 )
-    ensures { λ _. ⌜ WriteExported (now (groups .entry)) (now (parents .entry)) (now (counts .entry)) (now (events .entry)) (now (out .entry))
+    ensures { λ _. ⌜ WriteExported (now (groups .entry)) (now (parents .entry)) (now (counts .entry))
+        (now (events .entry)) (now (out .entry))
         (now (out .exit)) (now (answer .exit)) ⌝ }
 {
     let content = contents::of(*groups, *parents, *counts);
@@ -108,7 +112,8 @@ pub extern "C" fn scrollcairn_calls(
     replies: &mut [u16],
     answer: &mut [u64; 3],
 )
-    ensures { λ _. ⌜ CallsExported (given units count (now (groups .entry)) (now (parents .entry)) «fresh_hops» «fresh_book» (now (calls .entry))
+    ensures { λ _. ⌜ CallsExported (given units count (now (groups .entry)) (now (parents .entry)) «fresh_hops»
+        «fresh_book» (now (calls .entry))
         (now (book .entry)) (now (hops .entry)) (now (bench .entry)) (now (replies .entry)))
         (now (book .exit)) (now (hops .exit)) (now (bench .exit)) (now (replies .exit)) (now (answer .exit)) ⌝ }
 {

@@ -53,11 +53,13 @@ module _ (op : ℕ → ℕ → ℕ) (f : Bool → Bool → Bool)
 
 -- a digit function that agrees with a test on the four pairs of digits
 on-digits : (d : ℕ → ℕ → ℕ) (f : Bool → Bool → Bool) (n s t : ℕ) → n % 2 ≡ d (s % 2) (t % 2)
-    → eqb (d 0 0) 1 ≡ f false false → eqb (d 0 1) 1 ≡ f false true → eqb (d 1 0) 1 ≡ f true false → eqb (d 1 1) 1 ≡ f true true
+    → eqb (d 0 0) 1 ≡ f false false → eqb (d 0 1) 1 ≡ f false true → eqb (d 1 0) 1 ≡ f true false
+    → eqb (d 1 1) 1 ≡ f true true
     → eqb (n % 2) 1 ≡ f (eqb (s % 2) 1) (eqb (t % 2) 1)
 on-digits d f n s t e h00 h01 h10 h11 = go (two-digits s) (two-digits t)
   where
-    at : (a b : ℕ) → s % 2 ≡ a → t % 2 ≡ b → eqb (d a b) 1 ≡ f (eqb a 1) (eqb b 1) → eqb (n % 2) 1 ≡ f (eqb (s % 2) 1) (eqb (t % 2) 1)
+    at : (a b : ℕ) → s % 2 ≡ a → t % 2 ≡ b → eqb (d a b) 1 ≡ f (eqb a 1) (eqb b 1)
+        → eqb (n % 2) 1 ≡ f (eqb (s % 2) 1) (eqb (t % 2) 1)
     at a b p q h = ap (λ (x : ℕ). eqb x 1) (e ∙ ap₂ d p q) ∙ h ∙ ap₂ (λ (x y : ℕ). f (eqb x 1) (eqb y 1)) (sym p) (sym q)
 
     go : (s % 2 ≡ 0) ⊎ (s % 2 ≡ 1) → (t % 2 ≡ 0) ⊎ (t % 2 ≡ 1) → eqb (n % 2) 1 ≡ f (eqb (s % 2) 1) (eqb (t % 2) 1)
@@ -153,7 +155,8 @@ same-members zero s t hs ht e = lt-one hs ∙ sym (lt-one ht)
 same-members (suc k) s t hs ht e =
     let h : s / 2 ≡ t / 2 = same-members k (s / 2) (t / 2) (half-below k s hs) (half-below k t ht)
     (λ u b. sym (member-suc s u) ∙ e (suc u) (suc-le-suc b) ∙ member-suc t u) in
-    let d : s % 2 ≡ t % 2 = digit (s % 2) (t % 2) (two-digits s) (two-digits t) (sym (member-zero s) ∙ e 0 (zero-lt-suc k) ∙ member-zero t) in
+    let d : s % 2 ≡ t % 2 = digit (s % 2) (t % 2) (two-digits s) (two-digits t)
+    (sym (member-zero s) ∙ e 0 (zero-lt-suc k) ∙ member-zero t) in
     omega arith
   where
     digit : (a b : ℕ) → (a ≡ 0) ⊎ (a ≡ 1) → (b ≡ 0) ⊎ (b ≡ 1) → eqb a 1 ≡ eqb b 1 → a ≡ b
@@ -253,7 +256,8 @@ member-full (suc n) (suc u) =
 
 -- all digits below n set
 pub below-is : (n : ℕ) → n ≤ 32 → 2 ^ n - 1 ≡ below n
-below-is n h = same-members 32 (2 ^ n - 1) (below n) (let p : 2 ^ n ≤ 2 ^ 32 = pow-mono h in let q = pow-pos n in omega arith) (below-below n)
+below-is n h = same-members 32 (2 ^ n - 1) (below n) (let p : 2 ^ n ≤ 2 ^ 32 = pow-mono h in let q = pow-pos n in
+    omega arith) (below-below n)
     (λ u b. member-full n u ∙ sym (member-below-set n u ∙ ap (λ (x : Bool). x && ltb u n) (lt-ltb u 32 b)))
 
 -- no set has a member from 32 on
@@ -297,7 +301,8 @@ disjoint-digits true false h = refl
 disjoint-digits false true h = refl
 disjoint-digits false false h = refl
 
-pub size-union : (s t : ℕ) → ((u : ℕ) → member s u ≡ true → member t u ≡ true → ⊥) → size (union s t) ≡ size s + size t
+pub size-union : (s t : ℕ) → ((u : ℕ) → member s u ≡ true → member t u ≡ true → ⊥)
+    → size (union s t) ≡ size s + size t
 unfolding size
 size-union s t h = ones-add 32 (union s t) s t (λ u b. ap digit (member-union s t u) ∙ disjoint-digits (member s u) (member t u) (h u))
 
@@ -311,7 +316,8 @@ split-digits false false h = refl
 pub size-difference : (s t : ℕ) → Subset t s → size s ≡ size (difference s t) + size t
 unfolding size Subset
 size-difference s t h = ones-add 32 s (difference s t) t
-    (λ u b. split-digits (member s u) (member t u) (h u) ∙ ap (λ (x : Bool). digit x + digit (member t u)) (sym (member-difference s t u)))
+    (λ u b. split-digits (member s u) (member t u) (h u) ∙ ap (λ (x : Bool). digit x + digit (member t u))
+    (sym (member-difference s t u)))
 
 pub size-subset : (s t : ℕ) → Subset s t → size s ≤ size t
 size-subset s t h = omega (arith, size-difference t s h)
@@ -410,13 +416,14 @@ unfolding lowest
 lowest-member s u h m = lowest-in 32 s u h m .found
 
 -- a number of k digits that is not 0 has a member
-some-member : (k s : ℕ) → s < 2 ^ k → (s ≡ 0 → ⊥) → (u : ℕ) × (u < k) × (member s u ≡ true)
+pub some-member : (k s : ℕ) → s < 2 ^ k → (s ≡ 0 → ⊥) → (u : ℕ) × (u < k) × (member s u ≡ true)
 some-member zero s h n = absurd (n (lt-one h))
 some-member (suc k) s h n = go (two-digits s) (λ (f : s / 2 ≡ 0 → ⊥). some-member k (s / 2) (half-below k s h) f)
   where
     go : (s % 2 ≡ 0) ⊎ (s % 2 ≡ 1) → ((s / 2 ≡ 0 → ⊥) → (u : ℕ) × (u < k) × (member (s / 2) u ≡ true))
         → (u : ℕ) × (u < suc k) × (member s u ≡ true)
-    go (inl d) rest = let r = rest (λ e. n (let z : s ≡ 0 = omega arith in z)) in (suc (r .0), suc-le-suc (r .1), member-suc s (r .0) ∙ r .2)
+    go (inl d) rest = let r = rest (λ e. n (let z : s ≡ 0 = omega arith in z)) in
+        (suc (r .0), suc-le-suc (r .1), member-suc s (r .0) ∙ r .2)
     go (inr d) rest = (0, zero-lt-suc k, member-zero s ∙ ap (λ (x : ℕ). eqb x 1) d)
 
 pub lowest-of-some : (s : ℕ) → s < 2 ^ 32 → (s ≡ 0 → ⊥) → (lowest s < 32) × (member s (lowest s) ≡ true)

@@ -74,12 +74,14 @@ next-member {s} {left} {k} h n e =
     (omega (arith, first .0), rw e (sym (h .same (lowest left) (le-refl (lowest left))) ∙ first .1))
 
 -- one member fewer is left
-pub left-less : {s left k next : ℕ} → Left s left → (left ≡ 0 → ⊥) → k ≡ lowest left → next ≡ excluding left k → size next < size left
+pub left-less : {s left k next : ℕ} → Left s left → (left ≡ 0 → ⊥) → k ≡ lowest left → next ≡ excluding left k
+    → size next < size left
 left-less {s} {left} {k} {next} h n e x =
     let first = lowest-of-some left (h .bounded) n in
     rw (x, e) (size-excluding left (lowest left) (first .0) (first .1))
 
-pub left-turn : {s left k next : ℕ} → Left s left → (left ≡ 0 → ⊥) → k ≡ lowest left → next ≡ excluding left k → Left s next
+pub left-turn : {s left k next : ℕ} → Left s left → (left ≡ 0 → ⊥) → k ≡ lowest left
+    → next ≡ excluding left k → Left s next
 left-turn {s} {left} {k} {next} h n e x = rw (x, e) (record {
   bounded = excluding-below 32 left (lowest left) (h .bounded);
   same = λ u l.
@@ -94,14 +96,16 @@ module _ {A : Type 0} (s : ℕ) (rule : ℕ → A) (still : (k : ℕ) → member
   unchanged a zero h none = ap rule (omega arith)
   unchanged a (suc b) h none = by-cases (ℕ-discrete a (suc b))
       (λ (e : a ≡ suc b). ap rule (sym e))
-      (λ (e : a ≡ suc b → ⊥). still b (none b (omega arith) (omega arith)) ∙ unchanged a b (omega arith) (λ u l m. none u l (omega arith)))
+      (λ (e : a ≡ suc b → ⊥). still b (none b (omega arith) (omega arith))
+      ∙ unchanged a b (omega arith) (λ u l m. none u l (omega arith)))
 
   -- before the first member
   pub visits-start : {v : A} → v ≡ rule 0 → v ≡ rule (lowest s)
   visits-start e = e ∙ sym (unchanged 0 (lowest s) zero-le (λ u l m. below-lowest s u m))
 
   -- from one member to the next, where the value makes the rule's step at the one
-  pub visits-turn : {left k next : ℕ} {v r : A} → Left s left → (left ≡ 0 → ⊥) → k ≡ lowest left → next ≡ excluding left k
+  pub visits-turn : {left k next : ℕ} {v r : A} → Left s left → (left ≡ 0 → ⊥) → k ≡ lowest left
+      → next ≡ excluding left k
       → v ≡ rule (lowest left) → (k < 32 → member s k ≡ true → v ≡ rule k → r ≡ rule (suc k)) → r ≡ rule (lowest next)
   visits-turn {left} {k} {next} h n e x w step =
       let this = next-member h n e in
@@ -111,6 +115,7 @@ module _ {A : Type 0} (s : ℕ) (rule : ℕ → A) (still : (k : ℕ) → member
       ∙ ap (λ (t : ℕ). member t u) (sym x) ∙ below-lowest next u m))
 
   -- past the last member
-  pub visits-end : (n : ℕ) → s < 2 ^ n → n ≤ 32 → {left : ℕ} {v : A} → v ≡ rule (lowest left) → left ≡ 0 → v ≡ rule n
+  pub visits-end : (n : ℕ) → s < 2 ^ n → n ≤ 32 → {left : ℕ} {v : A} → v ≡ rule (lowest left)
+      → left ≡ 0 → v ≡ rule n
   visits-end n b l r e =
       r ∙ ap (λ (x : ℕ). rule (lowest x)) e ∙ ap rule lowest-empty ∙ unchanged n 32 l (λ u h m. not-member n s u b h)

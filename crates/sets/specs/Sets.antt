@@ -1,4 +1,4 @@
--- Rules: a set of numbers below 32 (units, or groups) in one unsigned number, the digit worth 2 to the power u standing for u.
+-- Rules: a set of numbers below 32 (units, or groups) as one number, whose binary digit u says whether u is in the set.
 -- These are definitions, to be believed; their laws are in proofs/Laws.antt.
 use Prim.Native.Nat.{ℕ, zero, suc, _-_, _/_, _%_, _^_}
 use mathlib.Core.Bool.{Bool, cond}

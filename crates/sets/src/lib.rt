@@ -1,5 +1,5 @@
-// Sets of numbers below 32 (units, or groups) in one unsigned number, the bit worth 2 to the power u
-// standing for u. Every function is total: a number from 32 on is in no set.
+// Sets of numbers below 32 (units, or groups) as one u32, whose bit u says whether u is in the set. Every function is total: a number from
+// 32 on is in no set.
 ghost use mathlib.Core.Path.{_≡_};
 ghost use Rattle.sets.specs.Sets.{member as isMember, union as unionOf, intersection as intersectionOf};
 ghost use Rattle.sets.specs.Sets.{difference as differenceOf, including as includingOf, excluding as excludingOf};

@@ -143,12 +143,19 @@ digits-within (suc k) n h f = by-cases (decLt n 10)
     ∙ digit-more (n / 10) (48 + n % 10) (omega arith) (omega arith) (omega arith) ∙ omega arith)
 
 -- the digits of a number above 0 start with another digit than 0
-within-first : (k n : ℕ) → 0 < n → n < 10 ^ k → (b : ℕ) × (bs : List ℕ) × (decimalWithin k n ≡ b ∷ bs) × (eqb b 48 ≡ false)
+within-first : (k n : ℕ) → 0 < n → n < 10 ^ k → (b : ℕ) × (bs : List ℕ) × (decimalWithin k n ≡ b ∷ bs)
+    × (eqb b 48 ≡ false)
 within-first zero n p h = absurd (lt-irrefl 0 (omega arith))
 within-first (suc k) n p h = by-cases (decLt n 10)
     (λ l. (48 + n, [], within-one k n l, ne-eqb (48 + n) 48 (λ e. lt-irrefl 0 (omega arith))))
     (λ l. let f = within-first k (n / 10) (omega arith) (tenth-below k n h)
-    in (f .0, f .1 ++ (48 + n % 10) ∷ [], within-more k n (omega arith) ∙ ap (λ (s : List ℕ). s ++ (48 + n % 10) ∷ []) (f .2), f .3))
+    in (
+      f .0,
+      f .1 ++ (48 + n % 10) ∷ [],
+      within-more k n (omega arith)
+          ∙ ap (λ (s : List ℕ). s ++ (48 + n % 10) ∷ []) (f .2),
+      f .3,
+    ))
 
 zero-read : number (decimal 0) ≡ 0
 unfolding decimal decimalWithin number digit

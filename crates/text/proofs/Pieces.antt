@@ -1,4 +1,5 @@
--- Laws of lists with a separator: bytes that pass no test, the place of the first separator, the pieces of a text, and the pieces joined. Assumes nothing.
+-- Laws of lists with a separator: bytes that pass no test, the place of the first separator, the pieces of a text, and the pieces joined.
+-- Assumes nothing.
 use mathlib.Core.Path.{_≡_, refl, sym, ap, _∙_}
 use mathlib.Core.Logic.{⊎-elim, by-cases}
 use mathlib.Core.Bool.{Bool, true, false, cond, true≢false}
@@ -76,7 +77,8 @@ place-le c (b ∷ t) = ⊎-elim
     (either (eqb b c))
 
 -- a text with a separator: its first piece, and the pieces of the rest
-pub split-place : (c : ℕ) (t : List ℕ) → placeOf c t < length t → split c t ≡ take (placeOf c t) t ∷ split c (drop (suc (placeOf c t)) t)
+pub split-place : (c : ℕ) (t : List ℕ) → placeOf c t < length t → split c t ≡ take (placeOf c t) t ∷
+    split c (drop (suc (placeOf c t)) t)
 unfolding inFront
 split-place c [] l = absurd (not-suc-le-zero l)
 split-place c (b ∷ t) l = ⊎-elim
@@ -139,13 +141,15 @@ join-split c (b ∷ t) = ⊎-elim
     (λ h. ap (join c) (split-other c b t h) ∙ join-front c b (split c t) ∙ ap (λ (s : List ℕ). b ∷ s) (join-split c t))
     (either (eqb b c))
   where
-    empty-first : ((p : List ℕ) × (ps : List (List ℕ)) × (split c t ≡ p ∷ ps)) → join c ([] ∷ split c t) ≡ c ∷ join c (split c t)
+    empty-first : ((p : List ℕ) × (ps : List (List ℕ)) × (split c t ≡ p ∷ ps))
+        → join c ([] ∷ split c t) ≡ c ∷ join c (split c t)
     empty-first (p, ps, e) = rw e
 
 pub split-join : (c : ℕ) (p : List ℕ) (ps : List (List ℕ)) → AllWithout c (p ∷ ps) → split c (join c (p ∷ ps)) ≡ p ∷ ps
 unfolding join
 split-join c p [] (more w r) = split-alone c p w
-split-join c p (q ∷ ps) (more w r) = split-append c p (join c (q ∷ ps)) w ∙ ap (λ (qs : List (List ℕ)). p ∷ qs) (split-join c q ps r)
+split-join c p (q ∷ ps) (more w r) = split-append c p (join c (q ∷ ps)) w
+    ∙ ap (λ (qs : List (List ℕ)). p ∷ qs) (split-join c q ps r)
 
 pub join-without : (c d : ℕ) (ps : List (List ℕ)) → eqb c d ≡ false → AllWithout d ps → Without d (join c ps)
 unfolding join some
@@ -180,7 +184,8 @@ pieces-rest c at p v h =
 pub pieces-turn : (c at : ℕ) (v : List ℕ) → at ≤ length v
     → piecesFrom c at v ≡ take (placeOf c (drop at v)) (drop at v) ∷ piecesFrom c (at + placeOf c (drop at v) + 1) v
 pieces-turn c at v h =
-    let t = drop at v in let p = placeOf c t in let n : length t ≡ length v - at = length-drop at v in let l : p ≤ length t = place-le c t
+    let t = drop at v in let p = placeOf c t in let n : length t ≡ length v - at = length-drop at v in
+    let l : p ≤ length t = place-le c t
     in pieces-within c at v h ∙ by-cases (decLt p (length t))
     (λ m. split-place c t m ∙ ap (λ (r : List (List ℕ)). take p t ∷ r) (pieces-rest c at p v (omega arith)))
     (λ m. split-none c t (omega arith) ∙ cc (take-all p t (omega arith), pieces-end c (at + p + 1) v (omega arith)))

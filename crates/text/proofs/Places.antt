@@ -92,7 +92,8 @@ number-zero [] e h = absurd (omega arith)
 number-zero (b ∷ []) e h = absurd (omega arith)
 number-zero (b ∷ c ∷ bs) e h = rw (eq-eqb b 48 e)
 
-pub number-digits : (text : List ℕ) → 0 < length text → (getD text 0 0 ≡ 48 → length text ≤ 1) → number text ≡ foldl digit 0 text
+pub number-digits : (text : List ℕ) → 0 < length text → (getD text 0 0 ≡ 48 → length text ≤ 1)
+    → number text ≡ foldl digit 0 text
 unfolding number
 number-digits [] h z = absurd (omega arith)
 number-digits (b ∷ []) h z = refl

@@ -80,11 +80,13 @@ written-append {s} {t} {list} {at = at} v w = record {
 
 -- one byte more
 pub written-more : {list mid left : List ℕ} {at place next : ℕ} (t : List ℕ) (i : ℕ) → i < length t
-    → Written (take i t) at list place mid → Written (getD t i 0 ∷ []) place mid next left → Written (take (i + 1) t) at list next left
+    → Written (take i t) at list place mid → Written (getD t i 0 ∷ []) place mid next left
+    → Written (take (i + 1) t) at list next left
 written-more t i h v w = rw (add-one i, take-suc t i 0 h) (written-append v w)
 
 -- the last byte is written
-pub written-all : {list left : List ℕ} {at place : ℕ} (t : List ℕ) (i : ℕ) → length t ≤ i → Written (take i t) at list place left
+pub written-all : {list left : List ℕ} {at place : ℕ} (t : List ℕ) (i : ℕ) → length t ≤ i
+    → Written (take i t) at list place left
     → Written t at list place left
 written-all t i h w = rw (take-all i t h) at w
 

@@ -16,7 +16,7 @@ isBad n = leb 65536 n
 unfoldable pub digit : ℕ → ℕ → ℕ
 digit n b = cond (leb 48 b && leb b 57 && ltb (n * 10 + (b - 48)) 65536) (n * 10 + (b - 48)) 65536
 
--- a decimal number: one digit or more, no leading zero (zero is `0`), at most 65,535
+-- a decimal number: `0`, or digits the first of which is not 0, up to 65,535
 unfoldable pub number : List ℕ → ℕ
 number [] = 65536
 number (b ∷ []) = digit 0 b

@@ -66,7 +66,7 @@ struct Builder<'a> {
 }
 
 impl Builder<'_> {
-    /// Splits `units` into parts joined by the groups of `live`, and lays out each below `parent`.
+    /// Splits `units` into the parts that the groups of `live` join, and lays out each below `parent`.
     fn lay_out(&mut self, mut units: u32, live: u32, parent: u8) {
         while units != 0 {
             let part = self.part(units.trailing_zeros() as usize, live) & units;

@@ -77,7 +77,8 @@ impl Largest {
         file
     }
 
-    /// A group for the next message, such that the ways of all messages come close to `hops`: ten for each, and room left for those that follow.
+    /// A group for the next message, such that the ways of all messages come close to `hops`: ten for each, and room left for those that
+    /// follow.
     fn group(&self, random: &mut Random, hops: usize, messages: usize) -> usize {
         let sizes = &self.route_sizes;
         let least = sizes.iter().min().expect("24 groups");

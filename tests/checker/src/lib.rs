@@ -1,5 +1,5 @@
-//! Demand 3 of document 01, checked on one run. It shares no code with the model: it is told the calls with their answers and what they leave, and
-//! finds the sizes of the ways from the parents itself.
+//! Demand 3 of document 01, checked on one run. It shares no code with the model: it is told the calls with their answers and what they
+//! leave, and finds the sizes of the ways from the parents itself.
 
 /// A call of the list and its answer.
 #[derive(Clone, Copy, Debug)]
@@ -18,7 +18,7 @@ pub struct Run<'a> {
     /// The parent of each unit, 255 for a root.
     pub parents: &'a [u8],
     pub calls: &'a [Call],
-    /// What log hands back for each unit.
+    /// The log of each unit, as handed back.
     pub logs: &'a [Vec<u16>],
     /// How many hops were made, and how many of these are taken.
     pub hops_made: usize,
@@ -139,7 +139,7 @@ fn no_circle(run: &Run) -> Result<(), String> {
     }
 }
 
-/// At rest exactly when the copies taken are as many as the way sizes of all messages sent add up to.
+/// At rest exactly when the copies taken are as many as the units on the ways of the messages.
 fn rest_by_sums(run: &Run, sent: &[Sent]) -> Result<(), String> {
     let taken = |call: &Call| match *call {
         Call::Arrive { taken } => taken as usize,
@@ -184,7 +184,7 @@ fn route_size(run: &Run, group: u16) -> Result<usize, String> {
     Ok(route.count_ones() as usize)
 }
 
-/// At rest exactly when every hop made is taken.
+/// At rest exactly when no hop is left to be taken.
 fn rest_by_hops(run: &Run) -> Result<(), String> {
     match run.rest == (run.hops_made == run.hops_taken) {
         true => Ok(()),

@@ -149,7 +149,7 @@ fn lent(random: &mut Random, short: bool, enough: usize, all: usize) -> u16 {
     lent as u16
 }
 
-/// The same for the call for a fresh bench, which may be told any length.
+/// The same for the call fresh, which may be told any length.
 fn fresh_lent(random: &mut Random, short: bool, enough: usize, all: usize) -> usize {
     match !short && random.percent(10) {
         true => random.pick(&[65_536, usize::MAX]),

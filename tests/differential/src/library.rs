@@ -158,7 +158,7 @@ fn write(content: &Content, list: &[u16], random: &mut Random, tally: &mut Tally
     Ok(expected.ok().map(|bytes| out[..bytes].to_vec()))
 }
 
-/// A content that no reader gave: the call ends and stays inside its lists; what it writes is free.
+/// A content that no reader gave: the call ends, within its lists; what it writes is free.
 fn write_rubbish(random: &mut Random) -> Result<(), String> {
     let mut content = rubbish_content(random);
     if random.percent(50) {

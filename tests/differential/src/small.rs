@@ -1,4 +1,5 @@
-//! Every input of a small size, through the baseline and the library; the program is left out, since a process for each would take too long.
+//! Every input of a small size, through the baseline and the library; the program is left out, since a process for each would take too
+//! long.
 
 use crate::cases::{self, Difference, Subjects};
 use crate::random::Random;

@@ -134,7 +134,7 @@ pub fn built(table: &Table) -> [u8; UNITS] {
     }
 }
 
-/// All units in one line, in any order: every group has a primary.
+/// The units in a single line, in any order: no group lacks a primary.
 fn line(random: &mut Random, units: usize) -> [u8; UNITS] {
     let mut order: Vec<usize> = (0..units).collect();
     random.shuffle(&mut order);

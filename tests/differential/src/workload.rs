@@ -124,7 +124,7 @@ impl Driver {
         }
     }
 
-    /// A hop that is out and not starved, by the style's order.
+    /// A hop in state out that is not starved, by the style's order.
     fn due(&self, random: &mut Random) -> Option<u16> {
         let starved = |hop: u16| match self.style.starved {
             Some((modulus, remainder)) => hop % modulus == remainder,

@@ -110,7 +110,7 @@ pub fn read(file: &[u8], events: &mut [u16], content: &mut Content) -> Result<Re
     Ok(ReadAnswer { numbers, parents_line })
 }
 
-/// Writes a bench file at the start of `out`, and answers how many bytes.
+/// Writes a bench file at the start of `out`, and answers its length.
 pub fn write(content: &Content, events: &[u16], out: &mut [u8]) -> Result<usize, Refusal> {
     let mut answer = [0; 3];
     // SAFETY: pointers with lengths come from slices, the others are references to arrays of the header's lengths; `out` and `answer` are
@@ -130,7 +130,7 @@ pub fn write(content: &Content, events: &[u16], out: &mut [u8]) -> Result<usize,
     outcome(answer).map(|(bytes, _)| bytes)
 }
 
-/// A forest and how much of the lists the call for a fresh bench is lent.
+/// A forest and how much of the lists the call fresh is lent.
 pub struct Fresh<'a> {
     pub units: usize,
     pub groups: &'a [u32; GROUPS],
@@ -159,8 +159,8 @@ pub struct CallsAnswer {
 /// Makes a fresh bench and runs a list of calls on it, six numbers each.
 pub fn calls(fresh: &Fresh, calls: &[u16], lists: &mut Lists) -> Result<CallsAnswer, Refusal> {
     let mut answer = [0; 3];
-    // SAFETY: pointers with lengths come from slices, the others are references to arrays of the header's lengths; the four lists written to are
-    // distinct vectors behind one mutable borrow.
+    // SAFETY: pointers with lengths come from slices, the others are references to arrays of the header's lengths; the four lists written
+    // to are distinct vectors behind one mutable borrow.
     unsafe {
         header::scrollcairn_calls(
             fresh.units,

@@ -1,9 +1,9 @@
-//! "The bench, message by message".
+//! Document 01, "The bench, message by message".
 
 use crate::forest::{Forest, Units};
 use crate::{Refusal, BOOK, HOPS, MESSAGES, UNITS};
 
-/// A hop record: sender, receiver, sequence number, message, state.
+/// A hop record, five numbers in this order.
 #[derive(Clone, Copy, Debug, Default, PartialEq, Eq)]
 pub struct Hop {
     pub sender: u16,
@@ -13,7 +13,7 @@ pub struct Hop {
     pub state: u16,
 }
 
-/// "A state is out (0), held (1) or taken (2)."
+/// The three states of a hop.
 pub const OUT: u16 = 0;
 pub const HELD: u16 = 1;
 pub const TAKEN: u16 = 2;
@@ -41,13 +41,13 @@ pub struct Bench {
     routes: Vec<Units>,
     messages: Vec<Message>,
     hops_made: usize,
-    /// "for each ordered pair of units, a count of hops made": sender by receiver
+    /// hops made, by sender and receiver
     pair_counts: [[u16; UNITS]; UNITS],
     log_lengths: [usize; UNITS],
 }
 
 impl Bench {
-    /// "The call that makes it, for a forest built or accepted, sets the lent hops and log book to zeros."
+    /// A fresh bench on a built or accepted forest; what is used of hops and book becomes zero.
     pub fn fresh(forest: Forest, hops: &mut [Hop], book: &mut [u16]) -> Result<Bench, Refusal> {
         lent_hops(hops)?;
         lent_book(book)?;
@@ -66,7 +66,7 @@ impl Bench {
         })
     }
 
-    /// "Send (source, group, word) records the message and makes one hop, out, from the source to the group's primary."
+    /// Send: the message is recorded, with a hop in state out to the primary of its group.
     pub fn send(&mut self, source: u16, group: u16, word: u16, hops: &mut [Hop]) -> Result<u16, Refusal> {
         lent_hops(hops)?;
         if source as usize >= self.forest.units() {
@@ -89,7 +89,7 @@ impl Bench {
         Ok(number)
     }
 
-    /// "Arrive (hop) stands for a copy reaching its receiver."
+    /// Arrive: a cable brings a copy of the hop.
     pub fn arrive(&mut self, hop: u16, hops: &mut [Hop], book: &mut [u16]) -> Result<ArriveReply, Refusal> {
         lent_hops(hops)?;
         lent_book(book)?;
@@ -116,7 +116,7 @@ impl Bench {
         })
     }
 
-    /// The hop with "the lowest sequence number of that pair not yet taken".
+    /// The pair's untaken hop of lowest sequence number.
     fn lowest_untaken(&self, sender: u16, receiver: u16, hops: &[Hop]) -> Option<usize> {
         (0..self.hops_made)
             .filter(|&at| hops[at].sender == sender && hops[at].receiver == receiver)
@@ -124,8 +124,8 @@ impl Bench {
             .min_by_key(|&at| hops[at].sequence)
     }
 
-    /// "it is taken: a receiver that is a member appends the message at the end of its own row of the log book; then, for each child of the
-    /// receiver that is on the group's way, in rising unit number, a hop to that child is made, out."
+    /// Takes a copy: its receiver, if it is a member, logs the message behind those that its row has; then a hop goes to each of its
+    /// children on the way, the lowest number first.
     fn take(&mut self, hop: usize, hops: &mut [Hop], book: &mut [u16]) {
         hops[hop].state = TAKEN;
         let message = hops[hop].message;
@@ -142,7 +142,7 @@ impl Bench {
         }
     }
 
-    /// "a new hop's sequence number is that count plus one"
+    /// The sequence number is the pair's count with this hop in it.
     fn make_hop(&mut self, sender: usize, receiver: usize, message: u16, hops: &mut [Hop]) {
         self.pair_counts[sender][receiver] += 1;
         hops[self.hops_made] = Hop {
@@ -155,7 +155,7 @@ impl Bench {
         self.hops_made += 1;
     }
 
-    /// "Log (unit) hands back that part of the lent book itself which holds the unit's logged messages; turned away, it hands back an empty part."
+    /// Log: the unit's messages, as a part of the caller's book; empty where it is turned away.
     pub fn log<'a>(&self, unit: u16, book: &'a [u16]) -> &'a [u16] {
         match self.log_length(unit, book) {
             Err(_) => &[],
@@ -166,7 +166,7 @@ impl Bench {
         }
     }
 
-    /// "A second call with the same inputs answers the refusal, 1 or 17, or else the log's length."
+    /// The second log call: the length of the log, or what `log` is refused for, 1 or 17.
     pub fn log_length(&self, unit: u16, book: &[u16]) -> Result<u16, Refusal> {
         lent_book(book)?;
         if unit as usize >= self.forest.units() {
@@ -175,7 +175,7 @@ impl Bench {
         Ok(self.log_lengths[unit as usize] as u16)
     }
 
-    /// "A bench is at rest when every hop made is taken."
+    /// At rest: no hop is left to be taken.
     pub fn rest(&self, hops: &[Hop]) -> Result<bool, Refusal> {
         lent_hops(hops)?;
         Ok(hops[..self.hops_made].iter().all(|hop| hop.state == TAKEN))
@@ -197,7 +197,7 @@ impl Bench {
         self.pair_counts[sender][receiver]
     }
 
-    /// "The way sizes of all messages sent", added up.
+    /// The sum of the messages' way sizes.
     pub fn route_sizes(&self) -> usize {
         let size = |message: &Message| self.routes[message.group as usize].len();
         self.messages.iter().map(size).sum()

@@ -1,8 +1,9 @@
-//! "The bench file": reading and writing. "In a file the first bad line decides, and in it the lowest number."
+//! Document 01, "The bench file": reading and writing. A file is refused for its first bad line, and there for the lowest number.
 
 use crate::{Refusal, EVENTS, EVENT_NUMBERS, FILE, GROUPS, ROOT, UNITS};
 
-/// What a file says beside its events. Places of groups that do not count are 0; parents are 255 for roots, past the units, and where the file says `build`.
+/// What a file says beside its events. Places of groups that do not count are 0; parents are 255 for roots, past the units, and where the
+/// file says `build`.
 #[derive(Clone, Debug, PartialEq, Eq)]
 pub struct Content {
     pub units: usize,
@@ -20,7 +21,7 @@ impl Content {
     }
 }
 
-/// "send is source+1, group, word; arrive is 0, hop, 0"
+/// Of a send source+1, group and word; of an arrival 0, hop and 0.
 pub type Event = [u16; 3];
 
 /// Reads a file into a content and a lent event list. Refusals 1 to 9; a refused file leaves the list as it was.
@@ -112,7 +113,7 @@ fn groups_line(line: &[u8]) -> Result<usize, u16> {
     }
 }
 
-/// `group=`, "members rising, commas between": 3, 4, 6, 7.
+/// `group=`, its members in rising order: 3, 4, 6, 7.
 fn group_line(line: &[u8], units: usize) -> Result<u32, u16> {
     let value = after_key(line, b"group=").ok_or(3u16)?;
     let members = entries(value, decimal).ok_or(4u16)?;
@@ -125,7 +126,7 @@ fn group_line(line: &[u8], units: usize) -> Result<u32, u16> {
     Ok(members.iter().map(|&member| 1 << member).sum())
 }
 
-/// `parents=`: "the word `build`, or for each unit in order its parent's number or `-` for a root". 3, 4, 6, 8. None for `build`.
+/// `parents=`: `build`, or an entry for each unit, where `-` is a root's. 3, 4, 6, 8. None for `build`.
 fn parents_line(line: &[u8], units: usize) -> Result<Option<[u8; UNITS]>, u16> {
     let value = after_key(line, b"parents=").ok_or(3u16)?;
     if value == b"build" {
@@ -149,7 +150,7 @@ fn parents_line(line: &[u8], units: usize) -> Result<Option<[u8; UNITS]>, u16> {
     Ok(Some(parents))
 }
 
-/// `send=source,group,word` or `arrive=hop`, after so many events: 3, 4, 9.
+/// A line `send=` or `arrive=`, after so many events: 3, 4, 9.
 fn event_line(line: &[u8], events_before: usize) -> Result<Event, u16> {
     let event = match (after_key(line, b"send="), after_key(line, b"arrive=")) {
         (Some(value), _) => send_event(value).ok_or(4u16)?,
@@ -162,7 +163,7 @@ fn event_line(line: &[u8], events_before: usize) -> Result<Event, u16> {
     }
 }
 
-/// "Source 65,535 is therefore refused as badly written."
+/// A source of 65,535 has no number one higher: it is badly written.
 fn send_event(value: &[u8]) -> Option<Event> {
     let numbers = entries(value, decimal)?;
     match numbers[..] {
@@ -181,7 +182,7 @@ fn entries<T>(value: &[u8], entry: impl Fn(&[u8]) -> Option<T>) -> Option<Vec<T>
     value.split(|&byte| byte == b',').map(entry).collect()
 }
 
-/// "A decimal number here has no leading zero (zero is `0`) and is at most 65,535."
+/// A decimal number without leading zeros, up to 65,535.
 fn decimal(text: &[u8]) -> Option<u16> {
     if text.is_empty() || !text.iter().all(u8::is_ascii_digit) {
         return None;
@@ -192,7 +193,7 @@ fn decimal(text: &[u8]) -> Option<u16> {
     std::str::from_utf8(text).ok()?.parse::<u16>().ok()
 }
 
-/// "The writer gives back the same lines from what was read, at the start of a lent list of 32,768 bytes, and answers how many bytes." Refusal 1.
+/// The writer puts the lines of a content first in the list of bytes, and answers their length. Refusal 1.
 pub fn write(content: &Content, list: &[u16], out: &mut [u8]) -> Result<usize, Refusal> {
     if list.len() < EVENT_NUMBERS || out.len() < FILE {
         return Err(Refusal::plain(1));

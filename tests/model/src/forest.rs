@@ -1,4 +1,4 @@
-//! "Groups and ways", "A drawn forest", "A built forest".
+//! Document 01, "Groups and ways", "A drawn forest", "A built forest".
 
 use crate::{Refusal, GROUPS, ROOT, UNITS};
 use std::collections::BTreeSet;
@@ -18,12 +18,13 @@ impl Forest {
         self.parents.len()
     }
 
-    /// "A unit is above itself, its children, their children and so on."
+    /// Above are the unit itself and its ancestors.
     pub fn is_above(&self, upper: usize, lower: usize) -> bool {
         upper == lower || self.ancestors(lower).contains(&upper)
     }
 
-    /// The parent, its parent and so on. Where there is a circle the walk would not end; each ancestor is met within as many steps as there are units.
+    /// The parent, its parent and so on. Where there is a circle the walk would not end; each ancestor is met within as many steps as there
+    /// are units.
     fn ancestors(&self, unit: usize) -> Units {
         let mut found = Units::new();
         let mut at = unit;
@@ -37,14 +38,14 @@ impl Forest {
         found
     }
 
-    /// "The primary of a group is the member that is above every member."
+    /// The member above all members of the group, if there is one.
     pub fn primary(&self, group: usize) -> Option<usize> {
         let members = &self.groups[group];
         let above_all = |unit: &&usize| members.iter().all(|&member| self.is_above(**unit, member));
         members.iter().find(above_all).copied()
     }
 
-    /// "The way of a group is every unit on the paths from the primary down to the members, both ends included."
+    /// The way: all units on the paths down from the primary to members, with both ends.
     pub fn route(&self, group: usize) -> Units {
         let primary = self.primary(group).expect("an accepted forest");
         let mut route = Units::new();
@@ -64,7 +65,7 @@ impl Forest {
         (0..self.units()).filter(|&child| self.parents[child] == Some(unit)).collect()
     }
 
-    /// "The build answers 32 parents, 255 at every place past the units"; a root's parent is 255.
+    /// The parents as the forest calls answer them: 255 for a root, and where there is no unit.
     pub fn answer(&self) -> [u8; UNITS] {
         let mut answer = [ROOT; UNITS];
         for (unit, parent) in self.parents.iter().enumerate() {
@@ -115,7 +116,7 @@ fn inside(units: usize, groups: &[Units]) -> Result<(), Refusal> {
     Ok(())
 }
 
-/// "It is accepted exactly when no unit is its own ancestor and every group has a primary." 10, then 11 with the lowest such group.
+/// Accepted is a forest without a unit among its own ancestors (10) and without a group that lacks a primary (11, with the lowest one).
 pub fn accept(forest: Forest) -> Result<Forest, Refusal> {
     if (0..forest.units()).any(|unit| forest.ancestors(unit).contains(&unit)) {
         return Err(Refusal::plain(10));
@@ -126,7 +127,7 @@ pub fn accept(forest: Forest) -> Result<Forest, Refusal> {
     }
 }
 
-/// "A built forest": the whole bench falls into parts, and each part is laid out by the rule.
+/// Document 01, "A built forest": the bench is split into parts, and the rule lays out each.
 pub fn lay_out(units: usize, groups: Vec<Units>) -> Forest {
     let mut forest = Forest { groups, parents: vec![None; units] };
     let live: Vec<Units> = forest.groups.clone();
@@ -136,7 +137,7 @@ pub fn lay_out(units: usize, groups: Vec<Units>) -> Forest {
     forest
 }
 
-/// One part: its root, then each smaller part by the same rule, its root a child of the root taken out. `live` are the groups not yet set aside.
+/// One part: its root, then each of the parts that are left without it, below that root. `live` are the groups that are not set aside.
 fn lay_out_part(part: &Units, above: Option<usize>, live: &[Units], forest: &mut Forest) {
     let root = root(part, &forest.groups);
     forest.parents[root] = above;
@@ -148,7 +149,7 @@ fn lay_out_part(part: &Units, above: Option<usize>, live: &[Units], forest: &mut
     }
 }
 
-/// "The root of a part is the unit that belongs to most groups of the whole bench; among equals, the lowest number."
+/// The unit of the part that most of all groups hold, set aside or not; of several the lowest.
 fn root(part: &Units, all_groups: &[Units]) -> usize {
     let degree = |unit: usize| all_groups.iter().filter(|g| g.contains(&unit)).count();
     let most = part.iter().map(|&unit| degree(unit)).max();
@@ -156,7 +157,7 @@ fn root(part: &Units, all_groups: &[Units]) -> usize {
     *part.iter().find(has_most).expect("a part is not empty")
 }
 
-/// "Two units are joined when some group holds both, or when a chain of joined units links them." The parts into which `units` fall.
+/// The parts into which `units` fall: units of one group are joined, and so are those that are linked over others.
 fn parts(units: &Units, groups: &[Units]) -> Vec<Units> {
     let mut parts: Vec<Units> = Vec::new();
     for &unit in units {

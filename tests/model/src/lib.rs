@@ -1,4 +1,4 @@
-//! A plain model of document 01, written from its text: each function says in its comment which sentence it follows. Speed does not matter here.
+//! A plain model of document 01, written from its text: each function says in its comment which rule it follows. Speed does not matter.
 
 pub mod bench;
 pub mod file;
@@ -12,7 +12,7 @@ pub const MESSAGES: usize = 200;
 pub const HOPS: usize = 2_000;
 pub const EVENTS: usize = 3_000;
 
-/// The log book: 32 rows of 200 numbers.
+/// The log book: 200 numbers to each of 32 rows.
 pub const BOOK: usize = UNITS * MESSAGES;
 
 /// The event list: three numbers for each event.

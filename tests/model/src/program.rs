@@ -1,4 +1,4 @@
-//! "The program reads a bench file from standard input, runs it and prints".
+//! Document 01, "The bench file", second paragraph: what the program prints for a file.
 
 use crate::bench::{ArriveReply, Bench, Hop};
 use crate::file::{self, Content, Event};
@@ -38,7 +38,7 @@ pub fn run(file: &[u8]) -> Printed {
     }
 }
 
-/// "a forest is built or checked only after the whole file was read unrefused, and is refused at the `parents=` line"
+/// The forest comes after the file: it is looked at once no line is refused, and its own refusal names the line of `parents=`.
 fn run_file(file: &[u8]) -> Result<Run, Refusal> {
     let mut list = vec![0; EVENT_NUMBERS];
     let content = file::read(file, &mut list)?;
@@ -67,8 +67,7 @@ fn run_event(event: Event, bench: &mut Bench, hops: &mut [Hop], book: &mut [u16]
     outcome.unwrap_or_else(|refusal| Outcome::Refused(refusal.number))
 }
 
-/// "for each refused event `refused=line,number`; then for each unit `log=unit` followed by its messages with commas; then `hops=` and the hops
-/// made; then `rest=yes` or `rest=no`"
+/// A line `refused=` for each event that is refused; a line `log=` for each unit; `hops=`; `rest=`.
 fn printed(run: &Run) -> String {
     let mut text = String::new();
     for (at, (_, outcome)) in run.events.iter().enumerate() {

@@ -37,7 +37,17 @@ returns-6 c = λ _ _. named _ (c .match .keys6)
 returns-7 : tie.Need-returns-7
 unfolding readAnswer
 returns-7 c = λ low high.
-    let r = c .match .rest in named _ (omega (arith, low, high, r .1, r .0 .1, r .0 .0 .1, r .0 .0 .0 .1, r .0 .0 .0 .0 .1, r .0 .0 .0 .0 .0 .1))
+    let r = c .match .rest in named _ (omega (
+      arith,
+      low,
+      high,
+      r .1,
+      r .0 .1,
+      r .0 .0 .1,
+      r .0 .0 .0 .1,
+      r .0 .0 .0 .0 .1,
+      r .0 .0 .0 .0 .0 .1,
+    ))
 
 pub fault-reply-spec : {M : Type 1} → statement M
 fault-reply-spec =

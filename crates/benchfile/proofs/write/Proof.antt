@@ -40,7 +40,8 @@ same-length c = search needs
 
 -- where both lists are long enough
 wrote : (events out text : List ℕ) → 9000 ≤ length events → 32768 ≤ length out
-    → (writeSays (writeShort events out) text ≡ WroteBytes (length text)) × (writeLeaves (writeShort events out) text out ≡ text ++ drop (length text) out)
+    → (writeSays (writeShort events out) text ≡ WroteBytes (length text))
+    × (writeLeaves (writeShort events out) text out ≡ text ++ drop (length text) out)
 unfolding writeSays writeShort writeLeaves
 wrote events out text many room = let list = le-ltb _ _ many in let long = le-ltb _ _ room in (simp (list, long), simp (list, long))
 

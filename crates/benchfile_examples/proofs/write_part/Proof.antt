@@ -1,4 +1,4 @@
--- The lent part is as long as the number says.
+-- The lent part has the length that the number says.
 use mathlib.Core.Path.{sym}
 use lib.Seq.{length-take-le}
 use borrow.Author.Needs.{needs}

@@ -1,13 +1,13 @@
 -- The loop fills the list number by number.
 use borrow.Author.Needs.{needs}
-use mathlib.Core.Path.{_≡_, refl, _∙_}
+use mathlib.Core.Path.{_≡_, refl, ap, _∙_}
 use mathlib.Core.List.{List}
 use Prim.Native.Nat.{ℕ, _+_, _-_, _%_}
 use lib.ListN.{getD}
 use Rattle.layout.specs.Tables.{tabulate}
 use Rattle.layout.proofs.Loops.{Filled, filled-none, filled-turn, filled-all}
 use Rattle.forest.specs.Forest.{primary, route}
-use Rattle.forest_tables.specs.Computed.{childrenOf, tablesOf, entryOf}
+use Rattle.forest_tables.specs.Computed.{childrenOf, columnsOf, tablesOf, entryOf}
 use Rattle.forest_tables.proofs.of.Statement.{statement}
 use Rattle.forest_tables.proofs.of.Tie as tie
 
@@ -19,16 +19,19 @@ entryAt n c gs ps children routes primaries i =
 
 -- all the numbers are the columns
 made : (n c : ℕ) (gs ps : List ℕ) → tabulate 140 (entryAt n c gs ps (tabulate 32 (childrenOf ps))
-    (tabulate 24 (λ g. route ps (getD gs g 0))) (tabulate 24 (λ g. primary ps (getD gs g 0)))) ≡ tablesOf n c gs ps
-unfolding tabulate entryOf tablesOf
+    (tabulate 24 (λ g. route ps (getD gs g 0))) (tabulate 24 (λ g. primary ps (getD gs g 0)))) ≡ columnsOf n c gs ps
+unfolding tabulate entryOf columnsOf
 made n c gs ps = refl
 
 abbrev Inv-loop : tie.InvT-loop
-Inv-loop units count groups parents children routes primaries table₀ i₀ table i =
-    Filled 140 (entryAt units count groups parents children routes primaries) table i
+Inv-loop units count parents table₁ children routes primaries table₀ i₀ table i =
+    Filled 140 (entryAt units count table₁ parents children routes primaries) table i
 
 abbrev μ-loop : tie.MeasureT-loop
-μ-loop units count groups parents children routes primaries table₀ i₀ table i = 140 - i
+μ-loop units count parents table₁ children routes primaries table₀ i₀ table i = 140 - i
+
+counted-requires : tie.Need-counted-requires Inv-loop μ-loop
+counted-requires c κs = search needs
 
 children-of-requires : tie.Need-children-of-requires Inv-loop μ-loop
 children-of-requires c κs = search needs
@@ -85,14 +88,17 @@ loop-again : tie.Need-loop-again Inv-loop μ-loop
 loop-again c = filled-turn (c .before .before .loop .inv) (c .before .loop-test .taken) (c .entry .ensures)
 
 returns : tie.Need-returns Inv-loop μ-loop
+unfolding tablesOf
 returns c =
     let found = c .before .before .before .before in
-    let a = found .before .before .args in
-    let n = a .units in let k = a .count in let gs = a .t2 in let ps = a .t4 in
+    let start = found .before .before in
+    let a = start .before .args in
+    let n = a .units in let k = a .count in let ps = a .t4 in
     filled-all (c .before .loop .inv) (c .loop-test .left)
-    ∙ (λ i. tabulate 140 (entryAt n k gs ps (found .before .children-of .ensures i) (found .route-table .ensures .1 i)
+    ∙ (λ i. tabulate 140 (entryAt n k (start .counted .result) ps (found .before .children-of .ensures i)
+    (found .route-table .ensures .1 i)
     (found .route-table .ensures .0 i)))
-    ∙ made n k gs ps
+    ∙ made n k (start .counted .result) ps ∙ ap (λ (table : List ℕ). columnsOf n k table ps) (start .counted .ensures)
 
 pub of-spec : {M : Type 1} → statement M
 of-spec =
@@ -100,6 +106,7 @@ of-spec =
     (tie.spec
     Inv-loop
     μ-loop
+    counted-requires
     children-of-requires
     route-table-requires
     loop-holds

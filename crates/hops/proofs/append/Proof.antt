@@ -1,14 +1,12 @@
 -- `append` meets its contract: a walk of its MIR, by hand. Where the place is in the list the slice is opened, the record there is stored
 -- to, and the slice is closed;
 -- else nothing is stored, and the list with the record set at that place is the list as it was. Both arms end in `ends`.
-use Rattle.hand_proofs.proofs.Prelude.{_≡_, refl, sym, ap, subst, [], _∷_, List, ℕ, _<_, _≤_, ltb, ltb→lt, nltb→le, set, length-set}
-use Rattle.hand_proofs.proofs.Prelude.{set-out, URA, fullShare, w64, vunit, vbool, vint}
-use Rattle.hand_proofs.proofs.Prelude.{vptr, emp, Heap, Tables, Atoms, factI, givenOf, tablesOf, Given, Sq, runs, atRet, ‵, _$_, !, move}
-use Rattle.hand_proofs.proofs.Prelude.{drop, rewrite, check, done, look, init}
-use Rattle.hand_proofs.proofs.Prelude.{store-raw, forget, stop, hop, from, lit, unit-lit, of-opd, bin, assigns-last, exec, returns}
-use Rattle.hand_proofs.proofs.Prelude.{place-is, Loan, slice, Holds, opens, closes, Handed}
-use Rattle.hand_proofs.proofs.Prelude.{Fit, Duty, Rooms, suited, Goes, starts, duty, Done-at, own-tables, proved-own, var, len-of, base-of}
-use Rattle.hand_proofs.proofs.Prelude.{equals, sets, Holding, empty, holds, envAt}
+use Rattle.hand_proofs.proofs.Prelude.{_≡_, refl, sym, ap, subst, [], _∷_, List, ℕ, _<_, _≤_, ltb, ltb→lt, nltb→le, set}
+use Rattle.hand_proofs.proofs.Prelude.{length-set, set-out, URA, fullShare, w64, vunit, vbool, vint, vptr, emp, Heap, Tables, Atoms, factI}
+use Rattle.hand_proofs.proofs.Prelude.{givenOf, tablesOf, Given, Sq, runs, atRet, ‵, _$_, !, move, drop, rewrite, check, done, look}
+use Rattle.hand_proofs.proofs.Prelude.{init, store-raw, forget, stop, hop, from, lit, unit-lit, of-opd, bin, assigns-last, exec, returns}
+use Rattle.hand_proofs.proofs.Prelude.{place-is, Loan, slice, Holds, opens, closes, Handed, Fit, Duty, Rooms, suited, Goes, starts, duty}
+use Rattle.hand_proofs.proofs.Prelude.{Done-at, own-tables, proved-own, var, len-of, base-of, equals, sets, Holding, empty, holds, envAt}
 use Rattle.hand_proofs.proofs.Prelude.{stack, Blocks, leaves, if-then}
 use Rattle.model.specs.declared.Hop.{Hop}
 use Rattle.hops.proofs.Records.{R, low, typed, out, put-in, place-fits}
@@ -62,8 +60,10 @@ module _ {M : Type 1} (𝓤 : URA M) (H : Heap 𝓤) (A : Atoms 𝓤) (W : Given
 pub append-spec : {M : Type 1} → stated.statement M
 unfolding code.routine tablesOf
 append-spec 𝓤 H 𝓜 𝓖 𝓡 =
-    proved-own 𝓤 H 𝓜 𝓖 𝓡 code.env (append-callee 𝓤 H (𝓖 .A)) tt (λ κs qs. refl) (λ κs qs a g. factI 𝓤 (Unit {0}) _ tt)
+    proved-own 𝓤 H 𝓜 𝓖 𝓡 code.env (append-callee 𝓤 H (𝓖 .A)) tt (λ κs qs. refl)
+    (λ κs qs a g. factI 𝓤 (Unit {0}) _ tt)
     (λ κs qs a g ws _ e. factI 𝓤 _ (emp 𝓤) (ap (λ es. es .0) e))
-    #append code.function (code.unfolded 𝓤 H 𝓜 𝓡) (λ h fit rooms _. walk 𝓤 H (𝓖 .A) (givenOf 𝓤 H 𝓜 𝓖) (own-tables 𝓤 H 𝓜 𝓖 𝓡 code.env)
+    #append code.function (code.unfolded 𝓤 H 𝓜 𝓡) (λ h fit rooms _. walk 𝓤 H (𝓖 .A) (givenOf 𝓤 H 𝓜 𝓖)
+    (own-tables 𝓤 H 𝓜 𝓖 𝓡 code.env)
     (h .0 .0) (h .0 .1) (h .1 .0)
     (h .1 .1 .0) fit rooms)

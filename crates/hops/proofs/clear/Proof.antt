@@ -1,14 +1,12 @@
 -- `clear` meets its contract: a walk of its MIR, by hand. The loop keeps that the first `at` places of the list are cleared.
 -- A turn calls `no_hop`, and lends the slice to `append`.
-use Rattle.hand_proofs.proofs.Prelude.{_≡_, refl, sym, ap, [], _∷_, List, WellFounded, InvImage·wf, ℕ, _+_, _-_, _<_, _≤_, _^_, arith, T}
-use Rattle.hand_proofs.proofs.Prelude.{ltb, ltb→lt, nltb→le, set, Nat·lt-wfRel, URA}
-use Rattle.hand_proofs.proofs.Prelude.{w64, vunit, vbool, vint, emp, Heap, Env, Tables, afterTurn, Atoms, fmOf, factI, givenOf, tablesOf}
-use Rattle.hand_proofs.proofs.Prelude.{Given, Item, Sq, runs, atRet, anyQ, ‵, _$_, ! }
-use Rattle.hand_proofs.proofs.Prelude.{rewrite, check, done, look, init, store, forget, lit, unit-lit, of-opd, no-more, bin, first, blocks}
-use Rattle.hand_proofs.proofs.Prelude.{exec, again, loops, returns, Triple, cited}
-use Rattle.hand_proofs.proofs.Prelude.{Loan, slice, Holds, Handed, Fit, contractOf, calls, Duty, Rooms, suited, Goes, starts, duty, Done-at}
-use Rattle.hand_proofs.proofs.Prelude.{own-tables, proved-own, var, ptr-of}
-use Rattle.hand_proofs.proofs.Prelude.{slice-of, _&_, sets, sets-last, into, Holding, empty, holds, envAt, stack, Blocks, leaves}
+use Rattle.hand_proofs.proofs.Prelude.{_≡_, refl, sym, ap, [], _∷_, List, WellFounded, InvImage·wf, ℕ, _+_, _-_, _<_, _≤_, _^_}
+use Rattle.hand_proofs.proofs.Prelude.{arith, T, ltb, ltb→lt, nltb→le, set, Nat·lt-wfRel, URA, w64, vunit, vbool, vint, emp, Heap}
+use Rattle.hand_proofs.proofs.Prelude.{Env, Tables, afterTurn, Atoms, fmOf, factI, givenOf, tablesOf, Given, Item, Sq, runs, atRet, anyQ}
+use Rattle.hand_proofs.proofs.Prelude.{‵, _$_, !, rewrite, check, done, look, init, store, forget, lit, unit-lit, of-opd, no-more, bin}
+use Rattle.hand_proofs.proofs.Prelude.{first, blocks, exec, again, loops, returns, Triple, cited, Loan, slice, Holds, Handed, Fit}
+use Rattle.hand_proofs.proofs.Prelude.{contractOf, calls, Duty, Rooms, suited, Goes, starts, duty, Done-at, own-tables, proved-own, var}
+use Rattle.hand_proofs.proofs.Prelude.{ptr-of, slice-of, _&_, sets, sets-last, into, Holding, empty, holds, envAt, stack, Blocks, leaves}
 use Rattle.hand_proofs.proofs.Prelude.{while-test, Turned}
 use native.Mathlib.Nat.{le-antisymm}
 use native.Mathlib.Numerals.{add-one}
@@ -49,7 +47,8 @@ module _ {M : Type 1} (𝓤 : URA M) (H : Heap 𝓤) (A : Atoms 𝓤) (W : Given
     Nearer-wf : WellFounded Nearer
     Nearer-wf = InvImage·wf (λ (i : Upto). count - i .0) (Nat·lt-wfRel .wf)
 
-    module _ (fit : Fit (self .passes) h) (rooms : Rooms (self .passes) h) (𝓣 : Tables 𝓤 H) (of-no-hop : Triple 𝓤 (𝓣 .C no-hop-def.name)
+    module _ (fit : Fit (self .passes) h) (rooms : Rooms (self .passes) h) (𝓣 : Tables 𝓤 H)
+        (of-no-hop : Triple 𝓤 (𝓣 .C no-hop-def.name)
         (contractOf (no-hop-callee 𝓤 H A)))
         (of-append : Triple 𝓤 (𝓣 .C append-def.name) (contractOf (append-callee 𝓤 H A))) where
       module _ (bs : Blocks locals) where
@@ -58,13 +57,15 @@ module _ {M : Type 1} (𝓤 : URA M) (H : Heap 𝓤) (A : Atoms 𝓤) (W : Given
 
         -- what the locals hold where a turn begins or the function ends: the result, `at`, and the test
         abbrev vs : Holding → Upto → Holding → List Holding
-        vs r i test = r ∷ holds (slice L) ∷ holds (vint w64 count) ∷ holds (vint w64 (i .0)) ∷ empty ∷ test ∷ empty ∷ empty ∷ empty ∷ []
+        vs r i test = r ∷ holds (slice L) ∷ holds (vint w64 count) ∷ holds (vint w64 (i .0)) ∷ empty ∷ test ∷
+            empty ∷ empty ∷ empty ∷ []
 
         -- the invariant: [the slice; the locals, the last first]
         abbrev At : Upto → List (Item 𝓤)
         At i = ‵ (Holds R L (filled (i .0) noHop hs)) ∷ stack locals bs (vs empty i empty) []
 
-        turns : (i : Upto) → Sq W (At i) (runs (𝓣 .C) (𝓣 .Λ) En turn-1 (anyQ (Turned 𝓤 H A 𝓣 En t-3 (Done-at self h) Nearer At i)))
+        turns : (i : Upto) → Sq W (At i) (runs (𝓣 .C) (𝓣 .Λ) En turn-1
+            (anyQ (Turned 𝓤 H A 𝓣 En t-3 (Done-at self h) Nearer At i)))
         unfolding afterTurn
         turns i =
             let fm = fmOf 𝓤 H (W .laws) 𝓣 in
@@ -86,7 +87,8 @@ module _ {M : Type 1} (𝓤 : URA M) (H : Heap 𝓤) (A : Atoms 𝓤) (W : Given
             (λ over.
             exec ! (𝓣 .C) (𝓣 .Λ) En t-3 (atRet En (Done-at self h)) $ sets ! (of-opd ! (unit-lit !)) (init ! 17 refl (tt, tt)) $
             returns ! (look ! 17 refl) $
-            leaves ! (‵ (Holds R L (filled (i .0) noHop hs)) ∷ []) locals bs (vs (holds vunit) i (holds (vbool (ltb (i .0) count)))) tt $
+            leaves ! (‵ (Holds R L (filled (i .0) noHop hs)) ∷ []) locals bs
+            (vs (holds vunit) i (holds (vbool (ltb (i .0) count)))) tt $
             rewrite ! 0 (λ (zs : List Hop). ‵ (Holds R L zs)) (ap (λ (m : ℕ). filled m noHop hs) (le-antisymm (i .1) (nltb→le
             (i .0) count over))) refl $ check ! refl $ done !)
           where
@@ -109,7 +111,8 @@ clear-spec 𝓤 H 𝓜 𝓖 𝓡 =
     let A = 𝓖 .A in
     proved-own 𝓤 H 𝓜 𝓖 𝓡 code.env (clear-callee 𝓤 H A) tt (λ κs qs. refl) (λ κs qs a g. factI 𝓤 (Unit {0}) _ tt)
     (λ κs qs a g ws _ e. factI 𝓤 _ (emp 𝓤) (ap (λ es. es .0) e))
-    #clear code.function (code.unfolded 𝓤 H 𝓜 𝓡) (λ h fit rooms _. walk 𝓤 H A (givenOf 𝓤 H 𝓜 𝓖) (h .0 .0) (h .0 .1) (h .1 .0) fit rooms
+    #clear code.function (code.unfolded 𝓤 H 𝓜 𝓡) (λ h fit rooms _. walk 𝓤 H A (givenOf 𝓤 H 𝓜 𝓖) (h .0 .0)
+    (h .0 .1) (h .1 .0) fit rooms
     (own-tables 𝓤 H 𝓜 𝓖 𝓡 code.env)
     (cited 𝓤 H _ 𝓜 𝓡 code.env no-hop-def.name _ code.calls-hops·no-hop (no-hop-thm.met 𝓤 H 𝓜 𝓖 𝓡))
     (cited 𝓤 H _ 𝓜 𝓡 code.env append-def.name _ code.calls-hops·append (append-thm.met 𝓤 H 𝓜 𝓖 𝓡)))

@@ -1,15 +1,13 @@
 -- `forward` meets its contract: a walk of its MIR, by hand. The loop keeps that what is left leads to the end that the start leads to
 -- (`Reaches` of Forwards.antt).
 -- A turn lends the counts to `next_hop` and the hops to `append`.
-use Rattle.hand_proofs.proofs.Prelude.{refl, ap, subst, [], _∷_, List, WellFounded, InvImage·wf, ℕ, _<_, T, set, Nat·lt-wfRel, URA, w16}
-use Rattle.hand_proofs.proofs.Prelude.{vint, vbool, emp, Heap, Env, Tables, afterTurn, Atoms, fmOf}
-use Rattle.hand_proofs.proofs.Prelude.{factI, givenOf, tablesOf, Given, Item, Sq, runs, atRet, anyQ, ‵, _$_, !, move, rewrite, check, done}
-use Rattle.hand_proofs.proofs.Prelude.{look, init, store, forget, of-opd, no-more, first}
-use Rattle.hand_proofs.proofs.Prelude.{blocks, exec, again, loops, returns, Is, u16, Triple, cited, stored, Loan, slice, Holds, Handed, Fit}
-use Rattle.hand_proofs.proofs.Prelude.{contractOf, calls, calls-last, Duty, Rooms}
-use Rattle.hand_proofs.proofs.Prelude.{suited, Goes, starts, duty, Done-at, own-tables, proved-own, var, ptr-of, slice-of, _&_, sets, into}
-use Rattle.hand_proofs.proofs.Prelude.{into-last, Holding, empty, holds, envAt}
-use Rattle.hand_proofs.proofs.Prelude.{stack, Blocks, leaves, while-test, Turned}
+use Rattle.hand_proofs.proofs.Prelude.{refl, ap, subst, [], _∷_, List, WellFounded, InvImage·wf, ℕ, _<_, T, set, Nat·lt-wfRel, URA}
+use Rattle.hand_proofs.proofs.Prelude.{w16, vint, vbool, emp, Heap, Env, Tables, afterTurn, Atoms, fmOf, factI, givenOf, tablesOf, Given}
+use Rattle.hand_proofs.proofs.Prelude.{Item, Sq, runs, atRet, anyQ, ‵, _$_, !, move, rewrite, check, done, look, init, store, forget}
+use Rattle.hand_proofs.proofs.Prelude.{of-opd, no-more, first, blocks, exec, again, loops, returns, Is, u16, Triple, cited, stored, Loan}
+use Rattle.hand_proofs.proofs.Prelude.{slice, Holds, Handed, Fit, contractOf, calls, calls-last, Duty, Rooms, suited, Goes, starts, duty}
+use Rattle.hand_proofs.proofs.Prelude.{Done-at, own-tables, proved-own, var, ptr-of, slice-of, _&_, sets, into, into-last, Holding, empty}
+use Rattle.hand_proofs.proofs.Prelude.{holds, envAt, stack, Blocks, leaves, while-test, Turned}
 use Rattle.model.specs.declared.Hop.{Hop}
 use Rattle.sets.specs.Sets.{size}
 use Rattle.hops.specs.declared.forwarding.Outgoing.{Outgoing}
@@ -70,7 +68,8 @@ module _ {M : Type 1} (𝓤 : URA M) (H : Heap 𝓤) (A : Atoms 𝓤) (W : Given
     Fewer-wf : WellFounded Fewer
     Fewer-wf = InvImage·wf (λ (i : Going). size (i .o .children)) (Nat·lt-wfRel .wf)
 
-    abbrev next : (i : Going) → T (isLeft (withPairs [] (i .o))) → Is O (later (i .o)) (by-outgoing .word (later (i .o)) ∷ []) → Going
+    abbrev next : (i : Going) → T (isLeft (withPairs [] (i .o))) → Is O (later (i .o)) (by-outgoing .word (later (i .o)) ∷ [])
+        → Going
     next i left is =
         let r = lent-turned (i .k) (i .o) (i .cs) (i .zs) (children-fit (i .o) (i .is)) left (i .reaches) in
         let f = withPairs (i .cs) (i .o) in
@@ -84,7 +83,8 @@ module _ {M : Type 1} (𝓤 : URA M) (H : Heap 𝓤) (A : Atoms 𝓤) (W : Given
         -- what the locals hold where a turn begins or the function ends: the result, `o`, and the test
         abbrev vs : Holding → Going → Holding → List Holding
         vs r i test =
-            r ∷ holds (slice L) ∷ holds (slice N) ∷ holds (by-outgoing .word start) ∷ holds (by-outgoing .word (i .o)) ∷ empty ∷ empty
+            r ∷ holds (slice L) ∷ holds (slice N) ∷ holds (by-outgoing .word start) ∷
+            holds (by-outgoing .word (i .o)) ∷ empty ∷ empty
             ∷ test ∷
             empty ∷ empty ∷ empty ∷ empty ∷ empty ∷ []
 
@@ -92,7 +92,8 @@ module _ {M : Type 1} (𝓤 : URA M) (H : Heap 𝓤) (A : Atoms 𝓤) (W : Given
         abbrev At : Going → List (Item 𝓤)
         At i = ‵ (Holds R L (i .zs)) ∷ ‵ (Holds Grid N (i .cs)) ∷ stack locals bs (vs empty i empty) []
 
-        turns : (i : Going) → Sq W (At i) (runs (𝓣 .C) (𝓣 .Λ) En turn-1 (anyQ (Turned 𝓤 H A 𝓣 En t-3 (Done-at self h) Fewer At i)))
+        turns : (i : Going) → Sq W (At i) (runs (𝓣 .C) (𝓣 .Λ) En turn-1
+            (anyQ (Turned 𝓤 H A 𝓣 En t-3 (Done-at self h) Fewer At i)))
         unfolding afterTurn
         turns i =
             let fm = fmOf 𝓤 H (W .laws) 𝓣 in let o : Outgoing = i .o in let hop : Hop = nextHop (withPairs (i .cs) o) in
@@ -140,13 +141,18 @@ forward-spec 𝓤 H 𝓜 𝓖 𝓡 =
     let A = 𝓖 .A in
     proved-own 𝓤 H 𝓜 𝓖 𝓡 code.env (forward-callee 𝓤 H A) tt (λ κs qs. refl) (λ κs qs a g. factI 𝓤 (Unit {0}) _ tt)
     (λ κs qs a g ws _ e. factI 𝓤 _ (emp 𝓤) (refl, ap (λ es. es .0) e, ap (λ es. es .1 .0) e))
-    #forward code.function (code.unfolded 𝓤 H 𝓜 𝓡) (λ h fit rooms _. walk 𝓤 H A (givenOf 𝓤 H 𝓜 𝓖) (h .0 .0) (h .0 .1) (h .1 .0 .0)
+    #forward code.function (code.unfolded 𝓤 H 𝓜 𝓡) (λ h fit rooms _. walk 𝓤 H A (givenOf 𝓤 H 𝓜 𝓖)
+    (h .0 .0) (h .0 .1) (h .1 .0 .0)
     (h .1 .0 .1) (h .1 .1 .0) fit rooms
     (own-tables 𝓤 H 𝓜 𝓖 𝓡 code.env) record {
-      of-is-left = cited 𝓤 H _ 𝓜 𝓡 code.env is-left-def.name _ code.calls-hops·forwarding·is-left (is-left-thm.met 𝓤 H 𝓜 𝓖 𝓡);
-      of-next-hop = cited 𝓤 H _ 𝓜 𝓡 code.env next-hop-def.name _ code.calls-hops·forwarding·next-hop (next-hop-thm.met 𝓤 H 𝓜 𝓖 𝓡);
-      of-place = cited 𝓤 H _ 𝓜 𝓡 code.env place-def.name _ code.calls-hops·forwarding·place (place-thm.met 𝓤 H 𝓜 𝓖 𝓡);
+      of-is-left = cited 𝓤 H _ 𝓜 𝓡 code.env is-left-def.name _ code.calls-hops·forwarding·is-left
+          (is-left-thm.met 𝓤 H 𝓜 𝓖 𝓡);
+      of-next-hop = cited 𝓤 H _ 𝓜 𝓡 code.env next-hop-def.name _ code.calls-hops·forwarding·next-hop
+          (next-hop-thm.met 𝓤 H 𝓜 𝓖 𝓡);
+      of-place = cited 𝓤 H _ 𝓜 𝓡 code.env place-def.name _ code.calls-hops·forwarding·place
+          (place-thm.met 𝓤 H 𝓜 𝓖 𝓡);
       of-append = cited 𝓤 H _ 𝓜 𝓡 code.env append-def.name _ code.calls-hops·append (append-thm.met 𝓤 H 𝓜 𝓖 𝓡);
-      of-after = cited 𝓤 H _ 𝓜 𝓡 code.env after-def.name _ code.calls-hops·forwarding·after (after-thm.met 𝓤 H 𝓜 𝓖 𝓡);
+      of-after = cited 𝓤 H _ 𝓜 𝓡 code.env after-def.name _ code.calls-hops·forwarding·after
+          (after-thm.met 𝓤 H 𝓜 𝓖 𝓡);
       of-made = cited 𝓤 H _ 𝓜 𝓡 code.env made-def.name _ code.calls-hops·forwarding·made (made-thm.met 𝓤 H 𝓜 𝓖 𝓡);
     })

@@ -1,15 +1,14 @@
 -- `next_of_pair` meets its contract: a walk of its MIR, by hand. Each turn reads the hop at the place and returns where it is of the pair;
 -- the answer from the place on is the
 -- same at every turn.
-use Rattle.hand_proofs.proofs.Prelude.{_≡_, refl, _∙_, subst, [], _∷_, List, WellFounded, InvImage·wf, ℕ, _+_, _-_, _<_, _^_, arith, T}
-use Rattle.hand_proofs.proofs.Prelude.{ltb→lt, nltb→le, Nat·lt-wfRel, URA, w8, w64, WT}
-use Rattle.hand_proofs.proofs.Prelude.{vint, emp, Heap, Env, Tables, afterTurn, Atoms, fmOf, factI, givenOf, tablesOf, Given, Item, Sq}
-use Rattle.hand_proofs.proofs.Prelude.{runs, atRet, anyQ, ‵, _$_, !, check, done, look}
-use Rattle.hand_proofs.proofs.Prelude.{init, store, forget, hop, lit, of-opd, no-more, bin, first, blocks, exec, again, loops, returns}
-use Rattle.hand_proofs.proofs.Prelude.{returns-within, Is, usize, Triple, cited, Loan}
-use Rattle.hand_proofs.proofs.Prelude.{slice, Views, Handed, Fit, contractOf, calls, Duty, Rooms, suited, Goes, starts, duty, Done-at}
-use Rattle.hand_proofs.proofs.Prelude.{own-tables, proved-own, var, _&_, sets, sets-last}
-use Rattle.hand_proofs.proofs.Prelude.{into, empty, holds, full, envAt, stack, Blocks, leaves, if-then, while-test, Turned}
+use Rattle.hand_proofs.proofs.Prelude.{_≡_, refl, _∙_, subst, [], _∷_, List, WellFounded, InvImage·wf, ℕ, _+_, _-_, _<_, _^_}
+use Rattle.hand_proofs.proofs.Prelude.{arith, T, ltb→lt, nltb→le, Nat·lt-wfRel, URA, w8, w64, WT, vint, emp, Heap, Env, Tables}
+use Rattle.hand_proofs.proofs.Prelude.{afterTurn, Atoms, fmOf, factI, givenOf, tablesOf, Given, Item, Sq, runs, atRet, anyQ, ‵, _$_, ! }
+use Rattle.hand_proofs.proofs.Prelude.{check, done, look, init, store, forget, hop, lit, of-opd, no-more, bin, first, blocks, exec, again}
+use Rattle.hand_proofs.proofs.Prelude.{loops, returns, returns-within, Is, usize, Triple, cited, Loan, slice, Views, Handed, Fit}
+use Rattle.hand_proofs.proofs.Prelude.{contractOf, calls, Duty, Rooms, suited, Goes, starts, duty, Done-at, own-tables, proved-own, var}
+use Rattle.hand_proofs.proofs.Prelude.{_&_, sets, sets-last, into, empty, holds, full, envAt, stack, Blocks, leaves, if-then, while-test}
+use Rattle.hand_proofs.proofs.Prelude.{Turned}
 use mathlib.Core.Bool.{not}
 use Rattle.model.specs.declared.Hop.{Hop}
 use Rattle.model.specs.Network.{hopAt, isPair}
@@ -54,7 +53,8 @@ module _ {M : Type 1} (𝓤 : URA M) (H : Heap 𝓤) (A : Atoms 𝓤) (W : Given
           (i .at) before other ∙ i .same;
     }
 
-    module _ (fit : Fit (self .passes) h) (rooms : Rooms (self .passes) h) (𝓣 : Tables 𝓤 H) (of-read : Triple 𝓤 (𝓣 .C read-def.name)
+    module _ (fit : Fit (self .passes) h) (rooms : Rooms (self .passes) h) (𝓣 : Tables 𝓤 H)
+        (of-read : Triple 𝓤 (𝓣 .C read-def.name)
         (contractOf (read-callee 𝓤 H A)))
         (of-pair : Triple 𝓤 (𝓣 .C is-pair-def.name) (contractOf (is-pair-callee 𝓤 H A))) where
       module _ (bs : Blocks locals) where
@@ -63,10 +63,12 @@ module _ {M : Type 1} (𝓤 : URA M) (H : Heap 𝓤) (A : Atoms 𝓤) (W : Given
 
         -- the invariant: [the slice; _9; …; _8; …; _7; …; _6; …; _5; …; _4; …; _3; …; _2; …; _1; …; _0; …]
         abbrev At : Search → List (Item 𝓤)
-        At i = ‵ (Views R L hs) ∷ stack locals bs (empty ∷ holds (slice L) ∷ holds (vint w8 s) ∷ holds (vint w8 r) ∷ holds (vint w64 start)
+        At i = ‵ (Views R L hs) ∷ stack locals bs (empty ∷ holds (slice L) ∷ holds (vint w8 s) ∷
+            holds (vint w8 r) ∷ holds (vint w64 start)
             ∷ holds (vint w64 end) ∷ holds (vint w64 (i .at)) ∷ empty ∷ empty ∷ empty ∷ []) []
 
-        turns : (i : Search) → Sq W (At i) (runs (𝓣 .C) (𝓣 .Λ) En turn-1 (anyQ (Turned 𝓤 H A 𝓣 En t-3 (Done-at self h) Shorter At i)))
+        turns : (i : Search) → Sq W (At i) (runs (𝓣 .C) (𝓣 .Λ) En turn-1
+            (anyQ (Turned 𝓤 H A 𝓣 En t-3 (Done-at self h) Shorter At i)))
         unfolding afterTurn onward
         turns i =
             let fm = fmOf 𝓤 H (W .laws) 𝓣 in let hop = hopAt hs (i .at) in
@@ -89,11 +91,13 @@ module _ {M : Type 1} (𝓤 : URA M) (H : Heap 𝓤) (A : Atoms 𝓤) (W : Given
             forget ! 1 refl $ forget ! 3 refl $ forget ! 5 refl $ again ! Shorter At i next (omega (arith, before))))))
             (λ over. exec ! (𝓣 .C) (𝓣 .Λ) En t-3 (atRet En (Done-at self h)) $
             sets ! (of-opd ! (var ! 7 refl)) (init ! 19 refl (tt, at-typed)) $ returns ! (look ! 19 refl) $
-            leaves ! (‵ (Views R L hs) ∷ []) locals bs (holds _ ∷ holds _ ∷ holds _ ∷ holds _ ∷ holds _ ∷ holds _ ∷ holds _ ∷ empty
+            leaves ! (‵ (Views R L hs) ∷ []) locals bs (holds _ ∷ holds _ ∷ holds _ ∷ holds _ ∷ holds _ ∷
+            holds _ ∷ holds _ ∷ empty
             ∷ holds _ ∷ empty ∷ []) tt $
             check ! (answers i (next-over hs s r end (i .at) (nltb→le (i .at) end over) ∙ i .same)) $ done !)
           where
-            answers : (j : Search) → j .at ≡ nextFrom hs s r end start → Is usize (nextFrom hs s r end start) (vint w64 (j .at) ∷ [])
+            answers : (j : Search) → j .at ≡ nextFrom hs s r end start
+                → Is usize (nextFrom hs s r end start) (vint w64 (j .at) ∷ [])
             answers j e = subst (λ (n : ℕ). Is usize n (vint w64 (j .at) ∷ [])) e (refl, j .fits)
 
       walk : Goes self 𝓣 code.function h
@@ -106,9 +110,11 @@ pub next-of-pair-spec : {M : Type 1} → stated.statement M
 unfolding code.routine tablesOf
 next-of-pair-spec 𝓤 H 𝓜 𝓖 𝓡 =
     let A = 𝓖 .A in
-    proved-own 𝓤 H 𝓜 𝓖 𝓡 code.env (next-of-pair-callee 𝓤 H A) tt (λ κs qs. refl) (λ κs qs a g. factI 𝓤 (Unit {0}) _ tt)
+    proved-own 𝓤 H 𝓜 𝓖 𝓡 code.env (next-of-pair-callee 𝓤 H A) tt (λ κs qs. refl)
+    (λ κs qs a g. factI 𝓤 (Unit {0}) _ tt)
     (λ κs qs a g ws _ e. factI 𝓤 _ (emp 𝓤) refl)
-    #next-of-pair code.function (code.unfolded 𝓤 H 𝓜 𝓡) (λ h fit rooms _. walk 𝓤 H A (givenOf 𝓤 H 𝓜 𝓖) (h .0 .0) (h .0 .1) (h .1 .0)
+    #next-of-pair code.function (code.unfolded 𝓤 H 𝓜 𝓡) (λ h fit rooms _. walk 𝓤 H A (givenOf 𝓤 H 𝓜 𝓖)
+    (h .0 .0) (h .0 .1) (h .1 .0)
     (h .1 .1 .0) (h .1 .1 .1 .0)
     (h .1 .1 .1 .1 .0) fit rooms (own-tables 𝓤 H 𝓜 𝓖 𝓡 code.env)
     (cited 𝓤 H _ 𝓜 𝓡 code.env read-def.name _ code.calls-hops·read (read-thm.met 𝓤 H 𝓜 𝓖 𝓡))

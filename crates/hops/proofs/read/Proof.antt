@@ -1,13 +1,11 @@
 -- `read` meets its contract: a walk of its MIR, by hand. Where the place is in the list the slice is looked into, and the record there is
 -- read; past it, `no_hop` answers.
-use Rattle.hand_proofs.proofs.Prelude.{refl, sym, ap, subst, [], _∷_, List, ℕ, _<_, _≤_, ltb→lt, nltb→le, getD, URA, w64, WT, vint, vptr}
-use Rattle.hand_proofs.proofs.Prelude.{emp, Heap, Tables, Atoms, fmOf, factI, givenOf}
-use Rattle.hand_proofs.proofs.Prelude.{tablesOf, Given, ‵, _$_, !, check, done, look, init, look-raw, stop, hop, from, load, lit, of-opd}
-use Rattle.hand_proofs.proofs.Prelude.{no-more, bin, returns, returns-within, Is}
-use Rattle.hand_proofs.proofs.Prelude.{place-is, Triple, cited, copied, Loan, Views, looks, shuts, Handed, Fit, contractOf, calls, Duty}
-use Rattle.hand_proofs.proofs.Prelude.{Rooms, suited, Goes, starts, duty, Done-at}
-use Rattle.hand_proofs.proofs.Prelude.{own-tables, proved-own, var, len-of, base-of, equals, sets, into, empty, holds, full, leaves}
-use Rattle.hand_proofs.proofs.Prelude.{if-then}
+use Rattle.hand_proofs.proofs.Prelude.{refl, sym, ap, subst, [], _∷_, List, ℕ, _<_, _≤_, ltb→lt, nltb→le, getD, URA, w64, WT}
+use Rattle.hand_proofs.proofs.Prelude.{vint, vptr, emp, Heap, Tables, Atoms, fmOf, factI, givenOf, tablesOf, Given, ‵, _$_, !, check}
+use Rattle.hand_proofs.proofs.Prelude.{done, look, init, look-raw, stop, hop, from, load, lit, of-opd, no-more, bin, returns}
+use Rattle.hand_proofs.proofs.Prelude.{returns-within, Is, place-is, Triple, cited, copied, Loan, Views, looks, shuts, Handed, Fit}
+use Rattle.hand_proofs.proofs.Prelude.{contractOf, calls, Duty, Rooms, suited, Goes, starts, duty, Done-at, own-tables, proved-own, var}
+use Rattle.hand_proofs.proofs.Prelude.{len-of, base-of, equals, sets, into, empty, holds, full, leaves, if-then}
 use Rattle.model.specs.declared.Hop.{Hop}
 use Rattle.model.specs.Network.{noHop, hopAt}
 use Rattle.hops.proofs.Records.{R, low, by-hop, typed, out, back-in, hop-past, place-fits}
@@ -19,7 +17,8 @@ use Rattle.hops.proofs.read.Statement as stated
 use Rattle.hops.proofs.read.Code as code
 use Rattle.hops.proofs.read.Code.Mir.{locals}
 
-module _ {M : Type 1} (𝓤 : URA M) (H : Heap 𝓤) (A : Atoms 𝓤) (W : Given 𝓤 H A) (𝓣 : Tables 𝓤 H) (known : Triple 𝓤 (𝓣 .C no-hop-def.name)
+module _ {M : Type 1} (𝓤 : URA M) (H : Heap 𝓤) (A : Atoms 𝓤) (W : Given 𝓤 H A) (𝓣 : Tables 𝓤 H)
+    (known : Triple 𝓤 (𝓣 .C no-hop-def.name)
     (contractOf (no-hop-callee 𝓤 H A))) where
   abbrev self : Duty 𝓤 H A
   self = duty (read-callee 𝓤 H A)
@@ -48,7 +47,8 @@ module _ {M : Type 1} (𝓤 : URA M) (H : Heap 𝓤) (A : Atoms 𝓤) (W : Given
       (λ over. let past = hop-past hs at (subst (λ (n : ℕ). n ≤ at) (rooms .0 .1) (nltb→le at (L .count) over)) in
       calls ! (fmOf 𝓤 H (W .laws) 𝓣) (no-hop-callee 𝓤 H A) known tt tt tt refl (no-more !) (λ is. into ! (init ! 15 refl
       (typed noHop is)) $ returns ! (look ! 15 refl) $
-      leaves ! (‵ (Views R L hs) ∷ []) locals bs (holds _ ∷ holds _ ∷ holds _ ∷ holds _ ∷ holds _ ∷ empty ∷ empty ∷ empty ∷ []) tt $
+      leaves ! (‵ (Views R L hs) ∷ []) locals bs (holds _ ∷ holds _ ∷ holds _ ∷ holds _ ∷ holds _ ∷ empty ∷
+      empty ∷ empty ∷ []) tt $
       check ! (subst (λ (x : Hop). Is R x (low noHop ∷ [])) past is) $ done !)))
 
 pub read-spec : {M : Type 1} → stated.statement M
@@ -57,5 +57,6 @@ read-spec 𝓤 H 𝓜 𝓖 𝓡 =
     let A = 𝓖 .A in
     proved-own 𝓤 H 𝓜 𝓖 𝓡 code.env (read-callee 𝓤 H A) tt (λ κs qs. refl) (λ κs qs a g. factI 𝓤 (Unit {0}) _ tt)
     (λ κs qs a g ws _ e. factI 𝓤 _ (emp 𝓤) refl)
-    #read code.function (code.unfolded 𝓤 H 𝓜 𝓡) (λ h fit rooms _. walk 𝓤 H A (givenOf 𝓤 H 𝓜 𝓖) (own-tables 𝓤 H 𝓜 𝓖 𝓡 code.env)
+    #read code.function (code.unfolded 𝓤 H 𝓜 𝓡) (λ h fit rooms _. walk 𝓤 H A (givenOf 𝓤 H 𝓜 𝓖)
+    (own-tables 𝓤 H 𝓜 𝓖 𝓡 code.env)
     (cited 𝓤 H _ 𝓜 𝓡 code.env no-hop-def.name _ code.calls-hops·no-hop (no-hop-thm.met 𝓤 H 𝓜 𝓖 𝓡)) h fit rooms)

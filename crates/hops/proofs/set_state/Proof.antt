@@ -1,15 +1,13 @@
 -- `set_state` meets its contract: a walk of its MIR, by hand. Where the place is in the list the slice is opened, the state of the record
 -- there is stored to, and the slice
 -- is closed; else nothing is stored, and the list with a record set at that place is the list as it was. Both arms end in `ends`.
-use Rattle.hand_proofs.proofs.Prelude.{_≡_, refl, sym, ap, subst, [], _∷_, List, ℕ, _<_, _≤_, ltb, ltb→lt, nltb→le, getD, set, length-set}
-use Rattle.hand_proofs.proofs.Prelude.{set-out, URA, fullShare, w8, w64, vunit, vbool}
-use Rattle.hand_proofs.proofs.Prelude.{vint, vptr, emp, Heap, Tables, Atoms, factI, givenOf, tablesOf, Given, Sq, runs, atRet, ‵, _$_, ! }
-use Rattle.hand_proofs.proofs.Prelude.{move, drop, rewrite, check, done, look, init}
-use Rattle.hand_proofs.proofs.Prelude.{forget, stop, hop, fld, from, lit, unit-lit, of-opd, bin, assigns-last, exec, returns, whole, sub}
-use Rattle.hand_proofs.proofs.Prelude.{store-in, place-is, Loan, slice, Holds, opens}
-use Rattle.hand_proofs.proofs.Prelude.{closes, Handed, Fit, Duty, Rooms, suited, Goes, starts, duty, Done-at, own-tables, proved-own, var}
-use Rattle.hand_proofs.proofs.Prelude.{len-of, base-of, equals, sets, Holding, empty}
-use Rattle.hand_proofs.proofs.Prelude.{holds, envAt, stack, Blocks, leaves, if-then}
+use Rattle.hand_proofs.proofs.Prelude.{_≡_, refl, sym, ap, subst, [], _∷_, List, ℕ, _<_, _≤_, ltb, ltb→lt, nltb→le, getD, set}
+use Rattle.hand_proofs.proofs.Prelude.{length-set, set-out, URA, fullShare, w8, w64, vunit, vbool, vint, vptr, emp, Heap, Tables, Atoms}
+use Rattle.hand_proofs.proofs.Prelude.{factI, givenOf, tablesOf, Given, Sq, runs, atRet, ‵, _$_, !, move, drop, rewrite, check, done}
+use Rattle.hand_proofs.proofs.Prelude.{look, init, forget, stop, hop, fld, from, lit, unit-lit, of-opd, bin, assigns-last, exec, returns}
+use Rattle.hand_proofs.proofs.Prelude.{whole, sub, store-in, place-is, Loan, slice, Holds, opens, closes, Handed, Fit, Duty, Rooms, suited}
+use Rattle.hand_proofs.proofs.Prelude.{Goes, starts, duty, Done-at, own-tables, proved-own, var, len-of, base-of, equals, sets, Holding}
+use Rattle.hand_proofs.proofs.Prelude.{empty, holds, envAt, stack, Blocks, leaves, if-then}
 use Rattle.model.specs.declared.Hop.{Hop}
 use Rattle.model.specs.Network.{noHop, hopAt, withState, setState}
 use Rattle.hops.proofs.Records.{R, state-low, out, put-in, place-fits}
@@ -70,8 +68,10 @@ module _ {M : Type 1} (𝓤 : URA M) (H : Heap 𝓤) (A : Atoms 𝓤) (W : Given
 pub set-state-spec : {M : Type 1} → stated.statement M
 unfolding code.routine tablesOf
 set-state-spec 𝓤 H 𝓜 𝓖 𝓡 =
-    proved-own 𝓤 H 𝓜 𝓖 𝓡 code.env (set-state-callee 𝓤 H (𝓖 .A)) tt (λ κs qs. refl) (λ κs qs a g. factI 𝓤 (Unit {0}) _ tt)
+    proved-own 𝓤 H 𝓜 𝓖 𝓡 code.env (set-state-callee 𝓤 H (𝓖 .A)) tt (λ κs qs. refl)
+    (λ κs qs a g. factI 𝓤 (Unit {0}) _ tt)
     (λ κs qs a g ws _ e. factI 𝓤 _ (emp 𝓤) (ap (λ es. es .0) e))
-    #set-state code.function (code.unfolded 𝓤 H 𝓜 𝓡) (λ h fit rooms _. walk 𝓤 H (𝓖 .A) (givenOf 𝓤 H 𝓜 𝓖) (own-tables 𝓤 H 𝓜 𝓖 𝓡 code.env)
+    #set-state code.function (code.unfolded 𝓤 H 𝓜 𝓡) (λ h fit rooms _. walk 𝓤 H (𝓖 .A) (givenOf 𝓤 H 𝓜 𝓖)
+    (own-tables 𝓤 H 𝓜 𝓖 𝓡 code.env)
     (h .0 .0) (h .0 .1) (h .1 .0)
     (h .1 .1 .0) fit rooms)

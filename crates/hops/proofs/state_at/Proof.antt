@@ -1,12 +1,11 @@
 -- `state_at` meets its contract: a walk of its MIR, by hand. Where the place is in the list the slice is looked into, and the state of the
 -- record there is read.
-use Rattle.hand_proofs.proofs.Prelude.{refl, sym, ap, subst, [], _∷_, List, ℕ, _<_, _≤_, ltb→lt, nltb→le, getD, arith, URA, w8, w64, WT}
-use Rattle.hand_proofs.proofs.Prelude.{vint, vptr, emp, Heap, Tables, Atoms, factI}
-use Rattle.hand_proofs.proofs.Prelude.{givenOf, tablesOf, Given, ‵, _$_, !, check, done, look, init, look-in, whole, sub, stop, hop, fld}
-use Rattle.hand_proofs.proofs.Prelude.{from, load, lit, of-opd, bin, returns}
+use Rattle.hand_proofs.proofs.Prelude.{refl, sym, ap, subst, [], _∷_, List, ℕ, _<_, _≤_, ltb→lt, nltb→le, getD, arith, URA, w8}
+use Rattle.hand_proofs.proofs.Prelude.{w64, WT, vint, vptr, emp, Heap, Tables, Atoms, factI, givenOf, tablesOf, Given, ‵, _$_, !, check}
+use Rattle.hand_proofs.proofs.Prelude.{done, look, init, look-in, whole, sub, stop, hop, fld, from, load, lit, of-opd, bin, returns}
 use Rattle.hand_proofs.proofs.Prelude.{returns-within, Is, u8, place-is, copied, Loan, Views, looks, shuts, Handed, Fit, Duty, Rooms}
-use Rattle.hand_proofs.proofs.Prelude.{suited, Goes, starts, duty, Done-at}
-use Rattle.hand_proofs.proofs.Prelude.{own-tables, proved-own, var, len-of, base-of, equals, sets, empty, holds, full, leaves, if-then}
+use Rattle.hand_proofs.proofs.Prelude.{suited, Goes, starts, duty, Done-at, own-tables, proved-own, var, len-of, base-of, equals, sets}
+use Rattle.hand_proofs.proofs.Prelude.{empty, holds, full, leaves, if-then}
 use Rattle.model.specs.declared.Hop.{Hop}
 use Rattle.model.specs.Network.{noHop, hopAt}
 use Rattle.hops.proofs.Records.{R, low, by-hop, typed, out, back-in, hop-past, place-fits}
@@ -44,13 +43,15 @@ module _ {M : Type 1} (𝓤 : URA M) (H : Heap 𝓤) (A : Atoms 𝓤) (W : Given
       leaves ! (‵ (Views R L hs) ∷ []) locals bs (full locals _) tt $ check ! (refl, state .fits) $ done !)))
       (λ over. let past = hop-past hs at (subst (λ (n : ℕ). n ≤ at) (rooms .0 .1) (nltb→le at (L .count) over)) in
       sets ! (of-opd ! (lit ! tt)) (init ! 13 refl (tt, zero-typed)) $ returns ! (look ! 13 refl) $
-      leaves ! (‵ (Views R L hs) ∷ []) locals bs (holds _ ∷ holds _ ∷ holds _ ∷ holds _ ∷ holds _ ∷ empty ∷ empty ∷ []) tt $
+      leaves ! (‵ (Views R L hs) ∷ []) locals bs (holds _ ∷ holds _ ∷ holds _ ∷ holds _ ∷ holds _ ∷
+      empty ∷ empty ∷ []) tt $
       check ! (subst (λ (x : Hop). Is u8 (x .state) (vint w8 0 ∷ [])) past (refl, zero-typed .fits)) $ done !))
 
 pub state-at-spec : {M : Type 1} → stated.statement M
 unfolding code.routine tablesOf
 state-at-spec 𝓤 H 𝓜 𝓖 𝓡 =
-    proved-own 𝓤 H 𝓜 𝓖 𝓡 code.env (state-at-callee 𝓤 H (𝓖 .A)) tt (λ κs qs. refl) (λ κs qs a g. factI 𝓤 (Unit {0}) _ tt)
+    proved-own 𝓤 H 𝓜 𝓖 𝓡 code.env (state-at-callee 𝓤 H (𝓖 .A)) tt (λ κs qs. refl)
+    (λ κs qs a g. factI 𝓤 (Unit {0}) _ tt)
     (λ κs qs a g ws _ e. factI 𝓤 _ (emp 𝓤) refl)
     #state-at code.function (code.unfolded 𝓤 H 𝓜 𝓡) (λ h fit rooms _. walk 𝓤 H (𝓖 .A) (givenOf 𝓤 H 𝓜 𝓖)
     (own-tables 𝓤 H 𝓜 𝓖 𝓡 code.env) h fit rooms)

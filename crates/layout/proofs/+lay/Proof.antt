@@ -21,7 +21,7 @@ use Rattle.layout.proofs.Tables.{length-tabulate}
 use Rattle.layout.proofs.Laying.{Laying, turn-layable, turn-size, turn-less, turn-again, lay-below as root-small}
 use Rattle.layout.proofs.Laying.{lay-smaller, lay-starts, lay-ends}
 
--- the number of units in the part falls
+-- parts have fewer units at each step down
 abbrev μ-lay : Measures 3 lay-kinds.ps ℕ
 μ-lay κs a = size (a .1 .1 .0)
 
@@ -71,7 +71,8 @@ lay-element-write-parents t c = root-unit t c
 lay-mul-difference : (t : ℕ) → lay-lts.Need-mul-difference (claims t) (lay-at t) lay.Post lay-Inv-loop lay-μ-loop
 lay-mul-difference t c = omega (arith, root-unit t c)
 
-lay-element-copy-out-difference : (t : ℕ) → lay-lts.Need-element-copy-out-difference (claims t) (lay-at t) lay.Post lay-Inv-loop lay-μ-loop
+lay-element-copy-out-difference : (t : ℕ) → lay-lts.Need-element-copy-out-difference (claims t) (lay-at t) lay.Post
+    lay-Inv-loop lay-μ-loop
 lay-element-copy-out-difference t c = root-unit t c
 
 lay-difference-requires : (t : ℕ) → lay-lts.Need-difference-requires (claims t) (lay-at t) lay.Post lay-Inv-loop lay-μ-loop

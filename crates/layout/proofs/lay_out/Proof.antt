@@ -66,7 +66,8 @@ loop-again c =
     (c .difference .ensures) (c .before .lay .ensures)
 
 returns : tie.Need-returns Inv-loop μ-loop
-returns c = all-ends (c .before .before .before .below .ensures) (c .before .before .below2 .ensures) (c .before .loop .inv) (c .loop-test .left)
+returns c = all-ends (c .before .before .before .below .ensures) (c .before .before .below2 .ensures)
+    (c .before .loop .inv) (c .loop-test .left)
 
 pub lay-out-spec : {M : Type 1} → statement M
 lay-out-spec =

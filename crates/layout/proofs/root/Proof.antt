@@ -49,7 +49,8 @@ loop-again c =
 returns : tie.Need-returns Inv-loop μ-loop
 returns c =
     let start = c .before .before in
-    visits-end (start .args .part) _ (largest-still _ _) 32 (start .fits .part .fits) (lit≤ tt) (c .before .loop .inv .1) (c .loop-test .left)
+    visits-end (start .args .part) _ (largest-still _ _) 32 (start .fits .part .fits) (lit≤ tt)
+    (c .before .loop .inv .1) (c .loop-test .left)
 
 pub root-spec : {M : Type 1} → statement M
 root-spec =

@@ -29,8 +29,12 @@ loop-holds : tie.Need-loop-holds Inv-loop μ-loop
 unfolding spread
 loop-holds c =
     let a = c .before .before .args in
-    let e : c .intersection .result ≡ intersection (below 24) (a .live) = c .intersection .ensures ∙ ap (λ (x : ℕ). intersection x (a .live)) (c .before .below .ensures) in
-    rw e (left-all _ (intersection-below 32 (below 24) (a .live) (below-below 24)), visits-start _ _ (spread-still (a .groups .now) (a .live) (a .s) (c .before .before .pre)) refl)
+    let e : c .intersection .result ≡ intersection (below 24) (a .live) = c .intersection .ensures
+    ∙ ap (λ (x : ℕ). intersection x (a .live)) (c .before .below .ensures) in
+    rw e (
+      left-all _ (intersection-below 32 (below 24) (a .live) (below-below 24)),
+      visits-start _ _ (spread-still (a .groups .now) (a .live) (a .s) (c .before .before .pre)) refl,
+    )
 
 lowest-requires : tie.Need-lowest-requires Inv-loop μ-loop
 lowest-requires c κs = search needs
@@ -69,7 +73,8 @@ loop-again c =
     let gs = a .groups .now in
     let low = c .before .before .before .lowest in (
       left-turn (inv .0) (turn .loop-test .taken) (low .ensures) (c .excluding .ensures),
-      visits-turn _ _ (spread-still gs (a .live) (a .s) (start .pre)) (inv .0) (turn .loop-test .taken) (low .ensures) (c .excluding .ensures) (inv .1)
+      visits-turn _ _ (spread-still gs (a .live) (a .s) (start .pre)) (inv .0) (turn .loop-test .taken) (low .ensures)
+          (c .excluding .ensures) (inv .1)
           (λ b m e. c .before .absorbed .ensures ∙ ap (λ (x : ℕ). absorbed x (getD gs (low .result) 0) true) e
           ∙ ap (absorbed (spread (low .result) gs (a .live) (a .s)) (getD gs (low .result) 0))
           (sym (live-place gs (a .live) (low .result) m .1))),
@@ -79,7 +84,8 @@ returns : tie.Need-returns Inv-loop μ-loop
 returns c =
     let start = c .before .before .before .before in
     let a = start .args in
-    visits-end _ _ (spread-still (a .groups .now) (a .live) (a .s) (start .pre)) 24 (live-below (a .live)) (lit≤ tt) (c .before .loop .inv .1) (c .loop-test .left)
+    visits-end _ _ (spread-still (a .groups .now) (a .live) (a .s) (start .pre)) 24 (live-below (a .live)) (lit≤ tt)
+    (c .before .loop .inv .1) (c .loop-test .left)
 
 pub spread-spec : {M : Type 1} → statement M
 spread-spec =

@@ -36,7 +36,8 @@ returns c = search needs
 array-share-prefix-out : tie.Need-array-share-prefix-out
 unfolding runAnswer
 array-share-prefix-out c =
-    let run = c .before .before .before .before in run-bytes _ _ (run .run .result) _ (run .run .ensures) _ (ap runAnswer (c .before .reply .given .1)) .2
+    let run = c .before .before .before .before in run-bytes _ _ (run .run .result) _ (run .run .ensures) _
+    (ap runAnswer (c .before .reply .given .1)) .2
 
 slice-aggregate-write-all : tie.Need-slice-aggregate-write-all
 unfolding runAnswer

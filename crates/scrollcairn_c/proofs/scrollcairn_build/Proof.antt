@@ -12,7 +12,8 @@ returns c =
     let said = c .before .before .before .build .ensures in
     record {
       answers = c .put-forest .ensures .1 ∙ ap refusedFor (said .0);
-      leaves = c .put-forest .ensures .0 ∙ (λ i. unlessRefused (said .0 i) (said .1 i) (c .before .before .before .before .before .args .parents .now));
+      leaves = c .put-forest .ensures .0 ∙ (λ i. unlessRefused (said .0 i) (said .1 i)
+          (c .before .before .before .before .before .args .parents .now));
     }
 
 pub scrollcairn-build-spec : {M : Type 1} → statement M

@@ -18,9 +18,11 @@ returns c =
     let told = test .before .before in
     let read = told .before .before .before .before in
     let said = read .read .ensures in
-    let o = readFile (length (read .before .before .before .before .args .events .now)) (read .before .before .before .before .args .file .now) in
+    let o = readFile (length (read .before .before .before .before .args .events .now))
+    (read .before .before .before .before .args .file .now) in
     let stays : (f : Content → List ℕ) (before : List ℕ) → before ≡ storedOf f o before =
-    λ f before. refused-stored (read .read .result .reply) o (said .answers) (told .of-read .result) (told .of-read .ensures) f before (test .if1 .taken) in
+    λ f before. refused-stored (read .read .result .reply) o (said .answers) (told .of-read .result) (told .of-read .ensures) f
+    before (test .if1 .taken) in
     record {
       answers = c .put .ensures ∙ told .of-read .ensures ∙ ap (λ (a : Answer). toldBy a 0) (said .answers);
       leaves-events = said .leaves;
@@ -36,9 +38,11 @@ returns-2 c =
     let told = test .before .before in
     let read = told .before .before .before .before in
     let said = read .read .ensures in
-    let o = readFile (length (read .before .before .before .before .args .events .now)) (read .before .before .before .before .args .file .now) in
+    let o = readFile (length (read .before .before .before .before .args .events .now))
+    (read .before .before .before .before .args .file .now) in
     let changes : (f : Content → List ℕ) (before : List ℕ) → f (readContent o) ≡ storedOf f o before =
-    λ f before. good-stored (read .read .result .reply) o (said .answers) (told .of-read .result) (told .of-read .ensures) f before (test .if1 .left) in
+    λ f before. good-stored (read .read .result .reply) o (said .answers) (told .of-read .result) (told .of-read .ensures) f
+    before (test .if1 .left) in
     record {
       answers = c .put3 .ensures ∙ told .of-read .ensures ∙ ap (λ (a : Answer). toldBy a 0) (said .answers);
       leaves-events = said .leaves;

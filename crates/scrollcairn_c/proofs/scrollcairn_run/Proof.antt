@@ -25,4 +25,5 @@ returns c =
     }
 
 pub scrollcairn-run-spec : {M : Type 1} → statement M
-scrollcairn-run-spec = tie.close (tie.spec (λ c κs. search needs) (λ c κs. search needs) (λ c κs. search needs) (λ c. search needs) returns)
+scrollcairn-run-spec = tie.close (tie.spec (λ c κs. search needs) (λ c κs. search needs) (λ c κs. search needs)
+    (λ c. search needs) returns)

@@ -18,10 +18,12 @@ returns c =
     let out = start .args .out .now in
     record {
       answers = c .put .ensures ∙ told .of-write .ensures
-          ∙ ap (λ (a : Answer). toldBy a 0) (said .answers ∙ ap (λ (x : Content). writeSays (writeShort events out) (written x events)) content);
+          ∙ ap (λ (a : Answer). toldBy a 0) (said .answers ∙ ap (λ (x : Content). writeSays (writeShort events out)
+          (written x events)) content);
       leaves = said .leaves ∙ ap (λ (x : Content). writeLeaves (writeShort events out) (written x events) out) content;
     }
 
 pub scrollcairn-write-spec : {M : Type 1} → statement M
 scrollcairn-write-spec =
-    tie.close (tie.spec (λ c κs. search needs) (λ c κs. search needs) (λ c κs. search needs) (λ c κs. search needs) (λ c. search needs) returns)
+    tie.close (tie.spec (λ c κs. search needs) (λ c κs. search needs) (λ c κs. search needs) (λ c κs. search needs)
+    (λ c. search needs) returns)

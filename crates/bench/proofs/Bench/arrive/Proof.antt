@@ -1,11 +1,11 @@
 -- `Bench::arrive` meets its contract: a walk of its MIR, by hand. The bench's arrays are copied into arrays of its own, which are lent to
 -- `bench_engine::arrive` with the hops and the book; `after_arrive` puts the bench together again.
-use Rattle.hand_proofs.proofs.Prelude.{refl, [], _∷_, List, ℕ, _<_, _^_, arith, URA, w16, w64, WT, vint, emp, Heap, Tables, Atoms, fmOf}
-use Rattle.hand_proofs.proofs.Prelude.{factI, givenOf, tablesOf, Given, ‵, _$_, !, move, look, init, store, lit, of-opd, no-more, returns}
-use Rattle.hand_proofs.proofs.Prelude.{u16, Triple, cited, stored, by-uint, Loan, Holds, Handed, Fit, contractOf, calls, contract-related}
-use Rattle.hand_proofs.proofs.Prelude.{calls-related, Rooms, suited, RelationalDuty, Goes-related, starts-related, duty-related, concludes}
-use Rattle.hand_proofs.proofs.Prelude.{own-tables, proved-own-related, var, ptr-of, slice-of, _&_, sets, into, full, leaves, stop, from}
-use Rattle.hand_proofs.proofs.Prelude.{addr, agg, array-loan, lends-array, array-back}
+use Rattle.hand_proofs.proofs.Prelude.{refl, [], _∷_, List, ℕ, _<_, _^_, arith, URA, w16, w64, WT, vint, emp, Heap, Tables, Atoms}
+use Rattle.hand_proofs.proofs.Prelude.{fmOf, factI, givenOf, tablesOf, Given, ‵, _$_, !, move, look, init, store, lit, of-opd, no-more}
+use Rattle.hand_proofs.proofs.Prelude.{returns, u16, Triple, cited, stored, by-uint, Loan, Holds, Handed, Fit, contractOf, calls}
+use Rattle.hand_proofs.proofs.Prelude.{contract-related, calls-related, Rooms, suited, RelationalDuty, Goes-related, starts-related}
+use Rattle.hand_proofs.proofs.Prelude.{duty-related, concludes, own-tables, proved-own-related, var, ptr-of, slice-of, _&_, sets, into}
+use Rattle.hand_proofs.proofs.Prelude.{full, leaves, stop, from, addr, agg, array-loan, lends-array, array-back}
 use mir.Syntax.{w32}
 use denote.Builtin.{u32}
 use denote.Slice.{Room}
@@ -46,7 +46,8 @@ record Known {M : Type 1} (𝓤 : URA M) (H : Heap 𝓤) (A : Atoms 𝓤) (𝓣 
   of-engine-arrive : Triple 𝓤 (𝓣 .C engine-arrive-def.name) (contract-related (engine-arrive-callee 𝓤 H A))
   of-after-arrive : Triple 𝓤 (𝓣 .C after-arrive-def.name) (contractOf (after-arrive-callee 𝓤 H A))
 
-module _ {M : Type 1} (𝓤 : URA M) (H : Heap 𝓤) (A : Atoms 𝓤) (W : Given 𝓤 H A) (𝓣 : Tables 𝓤 H) (known : Known 𝓤 H A 𝓣) where
+module _ {M : Type 1} (𝓤 : URA M) (H : Heap 𝓤) (A : Atoms 𝓤) (W : Given 𝓤 H A) (𝓣 : Tables 𝓤 H)
+    (known : Known 𝓤 H A 𝓣) where
   abbrev self : RelationalDuty 𝓤 H A
   self = duty-related (arrive-callee 𝓤 H A)
 
@@ -97,7 +98,8 @@ module _ {M : Type 1} (𝓤 : URA M) (H : Heap 𝓤) (A : Atoms 𝓤) (W : Given
       (λ α γ. let I : Loan = array-loan 140 (bs .1 .1 .1 .1 .1 .1 .0) α γ in
       lends-array ! tt (by-uint w32) tt 41 600 ms ms-are messages-room refl
       (λ α γ. let J : Loan = array-loan 600 (bs .1 .1 .1 .1 .1 .1 .1 .0) α γ in
-      lends-array ! tt by-grid tt 40 2 ps ps-are pairs-room refl (λ α γ. let K : Loan = array-loan 2 (bs .1 .1 .1 .1 .1 .1 .1 .1 .0) α γ in
+      lends-array ! tt by-grid tt 40 2 ps ps-are pairs-room refl (λ α γ. let K : Loan = array-loan 2
+      (bs .1 .1 .1 .1 .1 .1 .1 .1 .0) α γ in
       lends-array ! tt (by-uint w16) tt 39 32 gs gs-are gauges-room refl
       (λ α γ. let Q : Loan = array-loan 32 (bs .1 .1 .1 .1 .1 .1 .1 .1 .1 .0) α γ in
       -- [gauges; pairs; messages; tables; hops; book; the locals]
@@ -128,15 +130,23 @@ pub arrive-spec : {M : Type 1} → stated.statement M
 unfolding code.routine tablesOf
 arrive-spec 𝓤 H 𝓜 𝓖 𝓡 =
     let A = 𝓖 .A in
-    proved-own-related 𝓤 H 𝓜 𝓖 𝓡 code.env (arrive-callee 𝓤 H A) tt (λ κs qs. refl) (λ κs qs a g. factI 𝓤 (Unit {0}) _ tt)
+    proved-own-related 𝓤 H 𝓜 𝓖 𝓡 code.env (arrive-callee 𝓤 H A) tt (λ κs qs. refl)
+    (λ κs qs a g. factI 𝓤 (Unit {0}) _ tt)
     (λ κs qs a g r ws _ said. factI 𝓤 _ (emp 𝓤) said)
-    #arrive code.function (code.unfolded 𝓤 H 𝓜 𝓡) (λ h fit rooms _. walk 𝓤 H A (givenOf 𝓤 H 𝓜 𝓖) (own-tables 𝓤 H 𝓜 𝓖 𝓡 code.env) record {
-      of-totals-of = cited 𝓤 H _ 𝓜 𝓡 code.env totals-of-def.name _ code.calls-bench·totals-of (totals-of-thm.met 𝓤 H 𝓜 𝓖 𝓡);
-      of-tables-of = cited 𝓤 H _ 𝓜 𝓡 code.env tables-of-def.name _ code.calls-bench·tables-of (tables-of-thm.met 𝓤 H 𝓜 𝓖 𝓡);
-      of-messages-of = cited 𝓤 H _ 𝓜 𝓡 code.env messages-of-def.name _ code.calls-bench·messages-of (messages-of-thm.met 𝓤 H 𝓜 𝓖 𝓡);
-      of-pairs-of = cited 𝓤 H _ 𝓜 𝓡 code.env pairs-of-def.name _ code.calls-bench·pairs-of (pairs-of-thm.met 𝓤 H 𝓜 𝓖 𝓡);
-      of-gauges-of = cited 𝓤 H _ 𝓜 𝓡 code.env gauges-of-def.name _ code.calls-bench·gauges-of (gauges-of-thm.met 𝓤 H 𝓜 𝓖 𝓡);
+    #arrive code.function (code.unfolded 𝓤 H 𝓜 𝓡) (λ h fit rooms _. walk 𝓤 H A (givenOf 𝓤 H 𝓜 𝓖)
+    (own-tables 𝓤 H 𝓜 𝓖 𝓡 code.env) record {
+      of-totals-of = cited 𝓤 H _ 𝓜 𝓡 code.env totals-of-def.name _ code.calls-bench·totals-of
+          (totals-of-thm.met 𝓤 H 𝓜 𝓖 𝓡);
+      of-tables-of = cited 𝓤 H _ 𝓜 𝓡 code.env tables-of-def.name _ code.calls-bench·tables-of
+          (tables-of-thm.met 𝓤 H 𝓜 𝓖 𝓡);
+      of-messages-of = cited 𝓤 H _ 𝓜 𝓡 code.env messages-of-def.name _ code.calls-bench·messages-of
+          (messages-of-thm.met 𝓤 H 𝓜 𝓖 𝓡);
+      of-pairs-of = cited 𝓤 H _ 𝓜 𝓡 code.env pairs-of-def.name _ code.calls-bench·pairs-of
+          (pairs-of-thm.met 𝓤 H 𝓜 𝓖 𝓡);
+      of-gauges-of = cited 𝓤 H _ 𝓜 𝓡 code.env gauges-of-def.name _ code.calls-bench·gauges-of
+          (gauges-of-thm.met 𝓤 H 𝓜 𝓖 𝓡);
       of-engine-arrive = cited 𝓤 H _ 𝓜 𝓡 code.env engine-arrive-def.name _ code.calls-bench-engine·arriving·arrive
           (engine-arrive-thm.met 𝓤 H 𝓜 𝓖 𝓡);
-      of-after-arrive = cited 𝓤 H _ 𝓜 𝓡 code.env after-arrive-def.name _ code.calls-bench·after-arrive (after-arrive-thm.met 𝓤 H 𝓜 𝓖 𝓡);
+      of-after-arrive = cited 𝓤 H _ 𝓜 𝓡 code.env after-arrive-def.name _ code.calls-bench·after-arrive
+          (after-arrive-thm.met 𝓤 H 𝓜 𝓖 𝓡);
     } h fit rooms)

@@ -1,10 +1,10 @@
 -- `Bench::fresh` meets its contract: a walk of its MIR, by hand. Functions by value say whether a lent list is too short, and so how much
 -- of each is cleared; `clear` is lent the hops, and the book's own `clear` the book; `begun` makes the answer.
 use mathlib.Core.Bool.{Bool, cond}
-use Rattle.hand_proofs.proofs.Prelude.{refl, ap, subst, [], _∷_, List, ℕ, _<_, _^_, arith, length, URA, w64, WT, vint, emp, Heap, Tables}
-use Rattle.hand_proofs.proofs.Prelude.{Atoms, fmOf, factI, givenOf, tablesOf, Given, ‵, _$_, !, move, look, init, store, lit, of-opd}
-use Rattle.hand_proofs.proofs.Prelude.{no-more, returns, u16, Triple, cited, stored, Loan, Holds, Handed, Fit, contractOf, calls, Rooms}
-use Rattle.hand_proofs.proofs.Prelude.{suited, RelationalDuty, Goes-related, starts-related, duty-related, concludes, own-tables}
+use Rattle.hand_proofs.proofs.Prelude.{refl, ap, subst, [], _∷_, List, ℕ, _<_, _^_, arith, length, URA, w64, WT, vint, emp, Heap}
+use Rattle.hand_proofs.proofs.Prelude.{Tables, Atoms, fmOf, factI, givenOf, tablesOf, Given, ‵, _$_, !, move, look, init, store, lit}
+use Rattle.hand_proofs.proofs.Prelude.{of-opd, no-more, returns, u16, Triple, cited, stored, Loan, Holds, Handed, Fit, contractOf, calls}
+use Rattle.hand_proofs.proofs.Prelude.{Rooms, suited, RelationalDuty, Goes-related, starts-related, duty-related, concludes, own-tables}
 use Rattle.hand_proofs.proofs.Prelude.{proved-own-related, var, ptr-of, len-of, slice-of, big-lit, _&_, equals, sets, into, full, leaves}
 use Rattle.model.specs.declared.Hop.{Hop}
 use Rattle.hops.proofs.Called.{clear-callee}
@@ -38,12 +38,14 @@ record Known {M : Type 1} (𝓤 : URA M) (H : Heap 𝓤) (A : Atoms 𝓤) (𝓣 
   of-begun : Triple 𝓤 (𝓣 .C begun-def.name) (contractOf (begun-callee 𝓤 H A))
 
 -- what is answered and left keeps the promise
-fresh-kept : (n c : ℕ) (gs ps : List ℕ) (hs : List Hop) (book : List ℕ) → let r = freshWith (isShort (length hs) (length book)) n c gs ps in
+fresh-kept : (n c : ℕ) (gs ps : List ℕ) (hs : List Hop) (book : List ℕ)
+    → let r = freshWith (isShort (length hs) (length book)) n c gs ps in
     FreshPromise n c gs ps hs book (r .reply) (listsOf (r .bench)) (freshHops hs book) (freshBook hs book)
 unfolding freshWith listsOf emptyBench freshBench
 fresh-kept n c gs ps hs book = fresh-promise n c gs ps hs book
 
-module _ {M : Type 1} (𝓤 : URA M) (H : Heap 𝓤) (A : Atoms 𝓤) (W : Given 𝓤 H A) (𝓣 : Tables 𝓤 H) (known : Known 𝓤 H A 𝓣) where
+module _ {M : Type 1} (𝓤 : URA M) (H : Heap 𝓤) (A : Atoms 𝓤) (W : Given 𝓤 H A) (𝓣 : Tables 𝓤 H)
+    (known : Known 𝓤 H A 𝓣) where
   abbrev self : RelationalDuty 𝓤 H A
   self = duty-related (fresh-callee 𝓤 H A)
 
@@ -68,14 +70,17 @@ module _ {M : Type 1} (𝓤 : URA M) (H : Heap 𝓤) (A : Atoms 𝓤) (W : Given
       -- [hops; book; the locals, the last first]
       sets ! (equals (ap (vint w64) (hops-room .1)) (of-opd ! (len-of ! 24 refl refl))) (init ! 20 refl (tt, record { fits = hops-fit })) $
       sets ! (equals (ap (vint w64) (book-room .1)) (of-opd ! (len-of ! 22 refl refl))) (init ! 18 refl (tt, record { fits = book-fits })) $
-      calls ! fm (is-short-callee 𝓤 H A) (known .of-is-short) (length hs, (length book, tt)) ((refl, hops-fit), ((refl, book-fits), tt)) tt
+      calls ! fm (is-short-callee 𝓤 H A) (known .of-is-short) (length hs, (length book, tt))
+      ((refl, hops-fit), ((refl, book-fits), tt)) tt
       refl
       (var ! 20 refl & var ! 18 refl & no-more !) (λ short-is. into ! (init ! 16 refl (tt, tt)) $
-      calls ! fm (choose-callee 𝓤 H A) (known .of-choose) (short, (0, (2000, tt))) (short-is, ((refl, zero-fits), ((refl, hops-max), tt)))
+      calls ! fm (choose-callee 𝓤 H A) (known .of-choose) (short, (0, (2000, tt)))
+      (short-is, ((refl, zero-fits), ((refl, hops-max), tt)))
       tt refl
       (var ! 16 refl & lit ! tt & big-lit ! hops-max & no-more !)
       (λ hops-used-is. into ! (init ! 14 refl (tt, record { fits = hops-used-is .1 })) $
-      calls ! fm (choose-callee 𝓤 H A) (known .of-choose) (short, (0, (6400, tt))) (short-is, ((refl, zero-fits), ((refl, book-max), tt)))
+      calls ! fm (choose-callee 𝓤 H A) (known .of-choose) (short, (0, (6400, tt)))
+      (short-is, ((refl, zero-fits), ((refl, book-max), tt)))
       tt refl
       (var ! 16 refl & lit ! tt & big-lit ! book-max & no-more !)
       (λ book-used-is. into ! (init ! 12 refl (tt, record { fits = book-used-is .1 })) $
@@ -103,12 +108,16 @@ pub fresh-spec : {M : Type 1} → stated.statement M
 unfolding code.routine tablesOf
 fresh-spec 𝓤 H 𝓜 𝓖 𝓡 =
     let A = 𝓖 .A in
-    proved-own-related 𝓤 H 𝓜 𝓖 𝓡 code.env (fresh-callee 𝓤 H A) tt (λ κs qs. refl) (λ κs qs a g. factI 𝓤 (Unit {0}) _ tt)
+    proved-own-related 𝓤 H 𝓜 𝓖 𝓡 code.env (fresh-callee 𝓤 H A) tt (λ κs qs. refl)
+    (λ κs qs a g. factI 𝓤 (Unit {0}) _ tt)
     (λ κs qs a g r ws _ said. factI 𝓤 _ (emp 𝓤) said)
-    #fresh code.function (code.unfolded 𝓤 H 𝓜 𝓡) (λ h fit rooms _. walk 𝓤 H A (givenOf 𝓤 H 𝓜 𝓖) (own-tables 𝓤 H 𝓜 𝓖 𝓡 code.env) record {
-      of-is-short = cited 𝓤 H _ 𝓜 𝓡 code.env is-short-def.name _ code.calls-bench·is-short (is-short-thm.met 𝓤 H 𝓜 𝓖 𝓡);
+    #fresh code.function (code.unfolded 𝓤 H 𝓜 𝓡) (λ h fit rooms _. walk 𝓤 H A (givenOf 𝓤 H 𝓜 𝓖)
+    (own-tables 𝓤 H 𝓜 𝓖 𝓡 code.env) record {
+      of-is-short = cited 𝓤 H _ 𝓜 𝓡 code.env is-short-def.name _ code.calls-bench·is-short
+          (is-short-thm.met 𝓤 H 𝓜 𝓖 𝓡);
       of-choose = cited 𝓤 H _ 𝓜 𝓡 code.env choose-def.name _ code.calls-bench·choose (choose-thm.met 𝓤 H 𝓜 𝓖 𝓡);
       of-clear = cited 𝓤 H _ 𝓜 𝓡 code.env clear-def.name _ code.calls-hops·clear (clear-thm.met 𝓤 H 𝓜 𝓖 𝓡);
-      of-book-clear = cited 𝓤 H _ 𝓜 𝓡 code.env book-clear-def.name _ code.calls-bench-store·book·clear (book-clear-thm.met 𝓤 H 𝓜 𝓖 𝓡);
+      of-book-clear = cited 𝓤 H _ 𝓜 𝓡 code.env book-clear-def.name _ code.calls-bench-store·book·clear
+          (book-clear-thm.met 𝓤 H 𝓜 𝓖 𝓡);
       of-begun = cited 𝓤 H _ 𝓜 𝓡 code.env begun-def.name _ code.calls-bench·begun (begun-thm.met 𝓤 H 𝓜 𝓖 𝓡);
     } h fit rooms)

@@ -30,7 +30,8 @@ returns c =
     let gauges = c .before .before .before in let tables = gauges .before in let a = tables .before .before .args in let b = a .self in
     subst (λ (l : List ℕ × List ℕ). LengthPromise (bench (b .totals) (l .0) (b .messages) (b .pairs .grids) (l .1)) (a .unit)
     (a .book .now) (c .log-length .result))
-    (λ i. (tables .tables-of .ensures i, gauges .gauges-of .ensures i)) (c .log-length .ensures (b .totals) (b .messages) (b .pairs .grids))
+    (λ i. (tables .tables-of .ensures i, gauges .gauges-of .ensures i))
+    (c .log-length .ensures (b .totals) (b .messages) (b .pairs .grids))
 
 pub log-length-spec : {M : Type 1} → statement M
 log-length-spec =

@@ -1,6 +1,6 @@
 -- `Bench::rest` meets its contract: a walk of its MIR, by hand. `bench_engine::rest` is called with the totals.
-use Rattle.hand_proofs.proofs.Prelude.{refl, [], _∷_, List, URA, emp, Heap, Tables, Atoms, fmOf, factI, givenOf, tablesOf, Given, ‵, _$_}
-use Rattle.hand_proofs.proofs.Prelude.{ !, look, init, no-more, returns, Triple, cited, stored, Loan, Handed, Fit, contractOf, calls}
+use Rattle.hand_proofs.proofs.Prelude.{refl, [], _∷_, List, URA, emp, Heap, Tables, Atoms, fmOf, factI, givenOf, tablesOf, Given, ‵}
+use Rattle.hand_proofs.proofs.Prelude.{_$_, !, look, init, no-more, returns, Triple, cited, stored, Loan, Handed, Fit, contractOf, calls}
 use Rattle.hand_proofs.proofs.Prelude.{contract-related, calls-related, Rooms, suited, RelationalDuty, Goes-related, starts-related}
 use Rattle.hand_proofs.proofs.Prelude.{duty-related, concludes, own-tables, proved-own-related, var, _&_, into, full, leaves, Views}
 use Rattle.model.specs.declared.Hop.{Hop}
@@ -23,7 +23,8 @@ record Known {M : Type 1} (𝓤 : URA M) (H : Heap 𝓤) (A : Atoms 𝓤) (𝓣 
   of-totals-of : Triple 𝓤 (𝓣 .C totals-of-def.name) (contractOf (totals-of-callee 𝓤 H A))
   of-engine-rest : Triple 𝓤 (𝓣 .C engine-rest-def.name) (contract-related (engine-rest-callee 𝓤 H A))
 
-module _ {M : Type 1} (𝓤 : URA M) (H : Heap 𝓤) (A : Atoms 𝓤) (W : Given 𝓤 H A) (𝓣 : Tables 𝓤 H) (known : Known 𝓤 H A 𝓣) where
+module _ {M : Type 1} (𝓤 : URA M) (H : Heap 𝓤) (A : Atoms 𝓤) (W : Given 𝓤 H A) (𝓣 : Tables 𝓤 H)
+    (known : Known 𝓤 H A 𝓣) where
   abbrev self : RelationalDuty 𝓤 H A
   self = duty-related (rest-callee 𝓤 H A)
 
@@ -45,9 +46,13 @@ pub rest-spec : {M : Type 1} → stated.statement M
 unfolding code.routine tablesOf
 rest-spec 𝓤 H 𝓜 𝓖 𝓡 =
     let A = 𝓖 .A in
-    proved-own-related 𝓤 H 𝓜 𝓖 𝓡 code.env (rest-callee 𝓤 H A) tt (λ κs qs. refl) (λ κs qs a g. factI 𝓤 (Unit {0}) _ tt)
+    proved-own-related 𝓤 H 𝓜 𝓖 𝓡 code.env (rest-callee 𝓤 H A) tt (λ κs qs. refl)
+    (λ κs qs a g. factI 𝓤 (Unit {0}) _ tt)
     (λ κs qs a g r ws _ said. factI 𝓤 _ (emp 𝓤) said)
-    #rest code.function (code.unfolded 𝓤 H 𝓜 𝓡) (λ h fit rooms _. walk 𝓤 H A (givenOf 𝓤 H 𝓜 𝓖) (own-tables 𝓤 H 𝓜 𝓖 𝓡 code.env) record {
-      of-totals-of = cited 𝓤 H _ 𝓜 𝓡 code.env totals-of-def.name _ code.calls-bench·totals-of (totals-of-thm.met 𝓤 H 𝓜 𝓖 𝓡);
-      of-engine-rest = cited 𝓤 H _ 𝓜 𝓡 code.env engine-rest-def.name _ code.calls-bench-engine·looking·rest (engine-rest-thm.met 𝓤 H 𝓜 𝓖 𝓡);
+    #rest code.function (code.unfolded 𝓤 H 𝓜 𝓡) (λ h fit rooms _. walk 𝓤 H A (givenOf 𝓤 H 𝓜 𝓖)
+    (own-tables 𝓤 H 𝓜 𝓖 𝓡 code.env) record {
+      of-totals-of = cited 𝓤 H _ 𝓜 𝓡 code.env totals-of-def.name _ code.calls-bench·totals-of
+          (totals-of-thm.met 𝓤 H 𝓜 𝓖 𝓡);
+      of-engine-rest = cited 𝓤 H _ 𝓜 𝓡 code.env engine-rest-def.name _ code.calls-bench-engine·looking·rest
+          (engine-rest-thm.met 𝓤 H 𝓜 𝓖 𝓡);
     } h fit rooms)

@@ -1,11 +1,11 @@
 -- `Bench::send` meets its contract: a walk of its MIR, by hand. The tables, the messages and the counts are copied into arrays of its own,
 -- which are lent to `bench_engine::send` with the hops; `after_send` puts the bench together again.
-use Rattle.hand_proofs.proofs.Prelude.{refl, [], _∷_, List, ℕ, _<_, _^_, arith, URA, w64, WT, vint, emp, Heap, Tables, Atoms, fmOf, factI}
-use Rattle.hand_proofs.proofs.Prelude.{givenOf, tablesOf, Given, ‵, _$_, !, move, look, init, store, lit, of-opd, no-more, returns, Triple}
-use Rattle.hand_proofs.proofs.Prelude.{cited, stored, by-uint, Loan, Holds, Handed, Fit, contractOf, calls, contract-related, calls-related}
-use Rattle.hand_proofs.proofs.Prelude.{Rooms, suited, RelationalDuty, Goes-related, starts-related, duty-related, concludes, own-tables}
-use Rattle.hand_proofs.proofs.Prelude.{proved-own-related, var, ptr-of, slice-of, _&_, sets, into, full, leaves, stop, from, addr, agg}
-use Rattle.hand_proofs.proofs.Prelude.{array-loan, lends-array, array-back}
+use Rattle.hand_proofs.proofs.Prelude.{refl, [], _∷_, List, ℕ, _<_, _^_, arith, URA, w64, WT, vint, emp, Heap, Tables, Atoms, fmOf}
+use Rattle.hand_proofs.proofs.Prelude.{factI, givenOf, tablesOf, Given, ‵, _$_, !, move, look, init, store, lit, of-opd, no-more}
+use Rattle.hand_proofs.proofs.Prelude.{returns, Triple, cited, stored, by-uint, Loan, Holds, Handed, Fit, contractOf, calls}
+use Rattle.hand_proofs.proofs.Prelude.{contract-related, calls-related, Rooms, suited, RelationalDuty, Goes-related, starts-related}
+use Rattle.hand_proofs.proofs.Prelude.{duty-related, concludes, own-tables, proved-own-related, var, ptr-of, slice-of, _&_, sets, into}
+use Rattle.hand_proofs.proofs.Prelude.{full, leaves, stop, from, addr, agg, array-loan, lends-array, array-back}
 use mir.Syntax.{w32}
 use denote.Builtin.{u32}
 use denote.Slice.{Room}
@@ -43,7 +43,8 @@ record Known {M : Type 1} (𝓤 : URA M) (H : Heap 𝓤) (A : Atoms 𝓤) (𝓣 
   of-engine-send : Triple 𝓤 (𝓣 .C engine-send-def.name) (contract-related (engine-send-callee 𝓤 H A))
   of-after-send : Triple 𝓤 (𝓣 .C after-send-def.name) (contractOf (after-send-callee 𝓤 H A))
 
-module _ {M : Type 1} (𝓤 : URA M) (H : Heap 𝓤) (A : Atoms 𝓤) (W : Given 𝓤 H A) (𝓣 : Tables 𝓤 H) (known : Known 𝓤 H A 𝓣) where
+module _ {M : Type 1} (𝓤 : URA M) (H : Heap 𝓤) (A : Atoms 𝓤) (W : Given 𝓤 H A) (𝓣 : Tables 𝓤 H)
+    (known : Known 𝓤 H A 𝓣) where
   abbrev self : RelationalDuty 𝓤 H A
   self = duty-related (send-callee 𝓤 H A)
 
@@ -112,13 +113,21 @@ pub send-spec : {M : Type 1} → stated.statement M
 unfolding code.routine tablesOf
 send-spec 𝓤 H 𝓜 𝓖 𝓡 =
     let A = 𝓖 .A in
-    proved-own-related 𝓤 H 𝓜 𝓖 𝓡 code.env (send-callee 𝓤 H A) tt (λ κs qs. refl) (λ κs qs a g. factI 𝓤 (Unit {0}) _ tt)
+    proved-own-related 𝓤 H 𝓜 𝓖 𝓡 code.env (send-callee 𝓤 H A) tt (λ κs qs. refl)
+    (λ κs qs a g. factI 𝓤 (Unit {0}) _ tt)
     (λ κs qs a g r ws _ said. factI 𝓤 _ (emp 𝓤) said)
-    #send code.function (code.unfolded 𝓤 H 𝓜 𝓡) (λ h fit rooms _. walk 𝓤 H A (givenOf 𝓤 H 𝓜 𝓖) (own-tables 𝓤 H 𝓜 𝓖 𝓡 code.env) record {
-      of-totals-of = cited 𝓤 H _ 𝓜 𝓡 code.env totals-of-def.name _ code.calls-bench·totals-of (totals-of-thm.met 𝓤 H 𝓜 𝓖 𝓡);
-      of-tables-of = cited 𝓤 H _ 𝓜 𝓡 code.env tables-of-def.name _ code.calls-bench·tables-of (tables-of-thm.met 𝓤 H 𝓜 𝓖 𝓡);
-      of-messages-of = cited 𝓤 H _ 𝓜 𝓡 code.env messages-of-def.name _ code.calls-bench·messages-of (messages-of-thm.met 𝓤 H 𝓜 𝓖 𝓡);
-      of-pairs-of = cited 𝓤 H _ 𝓜 𝓡 code.env pairs-of-def.name _ code.calls-bench·pairs-of (pairs-of-thm.met 𝓤 H 𝓜 𝓖 𝓡);
-      of-engine-send = cited 𝓤 H _ 𝓜 𝓡 code.env engine-send-def.name _ code.calls-bench-engine·sending·send (engine-send-thm.met 𝓤 H 𝓜 𝓖 𝓡);
-      of-after-send = cited 𝓤 H _ 𝓜 𝓡 code.env after-send-def.name _ code.calls-bench·after-send (after-send-thm.met 𝓤 H 𝓜 𝓖 𝓡);
+    #send code.function (code.unfolded 𝓤 H 𝓜 𝓡) (λ h fit rooms _. walk 𝓤 H A (givenOf 𝓤 H 𝓜 𝓖)
+    (own-tables 𝓤 H 𝓜 𝓖 𝓡 code.env) record {
+      of-totals-of = cited 𝓤 H _ 𝓜 𝓡 code.env totals-of-def.name _ code.calls-bench·totals-of
+          (totals-of-thm.met 𝓤 H 𝓜 𝓖 𝓡);
+      of-tables-of = cited 𝓤 H _ 𝓜 𝓡 code.env tables-of-def.name _ code.calls-bench·tables-of
+          (tables-of-thm.met 𝓤 H 𝓜 𝓖 𝓡);
+      of-messages-of = cited 𝓤 H _ 𝓜 𝓡 code.env messages-of-def.name _ code.calls-bench·messages-of
+          (messages-of-thm.met 𝓤 H 𝓜 𝓖 𝓡);
+      of-pairs-of = cited 𝓤 H _ 𝓜 𝓡 code.env pairs-of-def.name _ code.calls-bench·pairs-of
+          (pairs-of-thm.met 𝓤 H 𝓜 𝓖 𝓡);
+      of-engine-send = cited 𝓤 H _ 𝓜 𝓡 code.env engine-send-def.name _ code.calls-bench-engine·sending·send
+          (engine-send-thm.met 𝓤 H 𝓜 𝓖 𝓡);
+      of-after-send = cited 𝓤 H _ 𝓜 𝓡 code.env after-send-def.name _ code.calls-bench·after-send
+          (after-send-thm.met 𝓤 H 𝓜 𝓖 𝓡);
     } h fit rooms)

@@ -8,8 +8,8 @@ use Rattle.hand_proofs.proofs.Prelude.{refl, ap, subst, [], _∷_, List, ℕ, _
 use Rattle.hand_proofs.proofs.Prelude.{Tables, Atoms, fmOf, factI, givenOf, tablesOf, Given, ‵, _$_, !, move, look, init, lit, of-opd}
 use Rattle.hand_proofs.proofs.Prelude.{no-more, returns, returns-within, u16, Triple, cited, stored, Loan, Holds, Views, Handed, Fit}
 use Rattle.hand_proofs.proofs.Prelude.{contractOf, calls, Rooms, suited, RelationalDuty, Goes-related, starts-related, duty-related}
-use Rattle.hand_proofs.proofs.Prelude.{Done-related, concludes, own-tables, proved-own-related, var, ptr-of, len-of, slice-of, big-lit, _&_}
-use Rattle.hand_proofs.proofs.Prelude.{equals, sets, into, full, empty, holds, leaves, if-then}
+use Rattle.hand_proofs.proofs.Prelude.{Done-related, concludes, own-tables, proved-own-related, var, ptr-of, len-of, slice-of, big-lit}
+use Rattle.hand_proofs.proofs.Prelude.{_&_, equals, sets, into, full, empty, holds, leaves, if-then}
 use denote.Builtin.{u32}
 use Rattle.model.specs.declared.Hop.{Hop}
 use Rattle.model.specs.Network.{hopAt, setState}
@@ -76,7 +76,8 @@ not-held : (b : Bool) → T (not (not b)) → b ≡ true
 not-held true t = refl
 not-held false t = absurd t
 
-module _ {M : Type 1} (𝓤 : URA M) (H : Heap 𝓤) (A : Atoms 𝓤) (W : Given 𝓤 H A) (𝓣 : Tables 𝓤 H) (known : Known 𝓤 H A 𝓣) where
+module _ {M : Type 1} (𝓤 : URA M) (H : Heap 𝓤) (A : Atoms 𝓤) (W : Given 𝓤 H A) (𝓣 : Tables 𝓤 H)
+    (known : Known 𝓤 H A 𝓣) where
   abbrev self : RelationalDuty 𝓤 H A
   self = duty-related (arrive-callee 𝓤 H A)
 
@@ -86,7 +87,8 @@ module _ {M : Type 1} (𝓤 : URA M) (H : Heap 𝓤) (A : Atoms 𝓤) (W : Given
       let fm = fmOf 𝓤 H (W .laws) 𝓣 in
       let t : Totals = h .0 in let j : ℕ = h .1 .0 in
       -- lent: the tables at I, the messages at J, the pairs at K, the gauges at Q, the hops at L, the book at N
-      let l = h .1 .1 in let I : Loan = l .0 .0 in let ts : List ℕ = l .0 .1 in let J : Loan = l .1 .0 .0 in let ms : List ℕ = l .1 .0 .1 in
+      let l = h .1 .1 in let I : Loan = l .0 .0 in let ts : List ℕ = l .0 .1 in let J : Loan = l .1 .0 .0 in
+      let ms : List ℕ = l .1 .0 .1 in
       let K : Loan = l .1 .1 .0 .0 in let ps : List (List (List ℕ)) = l .1 .1 .0 .1 in let Q : Loan = l .1 .1 .1 .0 .0 in
       let gs : List ℕ = l .1 .1 .1 .0 .1 in
       let L : Loan = l .1 .1 .1 .1 .0 .0 in let hs : List Hop = l .1 .1 .1 .1 .0 .1 in let N : Loan = l .1 .1 .1 .1 .1 .0 .0 in
@@ -131,9 +133,11 @@ module _ {M : Type 1} (𝓤 : URA M) (H : Heap 𝓤) (A : Atoms 𝓤) (W : Given
       (var ! 86 refl & var ! 62 refl & no-more !) (λ r-is.
       into ! (init ! 88 refl (stored W by-arrived (closedAs t number) r-is .0)) $ move ! (1 ∷ 2 ∷ 3 ∷ 4 ∷ []) $
       returns-within ! (Done-related self h) refl (look ! 88 refl) $
-      leaves ! (‵ (Views u32 I ts) ∷ ‵ (Holds u32 J ms) ∷ ‵ (Holds Grid K ps) ∷ ‵ (Holds u16 Q gs) ∷ ‵ (Holds R L hs) ∷ ‵
+      leaves ! (‵ (Views u32 I ts) ∷ ‵ (Holds u32 J ms) ∷ ‵ (Holds Grid K ps) ∷ ‵ (Holds u16 Q gs) ∷
+      ‵ (Holds R L hs) ∷ ‵
       (Holds u16 N book) ∷ []) locals bs
-      (holds _ ∷ holds _ ∷ holds _ ∷ holds _ ∷ holds _ ∷ holds _ ∷ holds _ ∷ holds _ ∷ holds _ ∷ holds _ ∷ holds _ ∷ holds _ ∷ holds _ ∷
+      (holds _ ∷ holds _ ∷ holds _ ∷ holds _ ∷ holds _ ∷ holds _ ∷ holds _ ∷ holds _ ∷ holds _ ∷ holds _ ∷ holds _ ∷
+      holds _ ∷ holds _ ∷
       holds _ ∷
       empty ∷ empty ∷ empty ∷ holds _ ∷ holds _ ∷ holds _ ∷
       empty ∷ empty ∷ empty ∷ empty ∷ empty ∷ empty ∷ empty ∷ empty ∷ empty ∷ empty ∷ empty ∷
@@ -162,9 +166,11 @@ module _ {M : Type 1} (𝓤 : URA M) (H : Heap 𝓤) (A : Atoms 𝓤) (W : Given
       calls ! fm (held-callee 𝓤 H A) (known .of-held) (t, tt) (t-is, tt) tt refl (var ! 86 refl & no-more !) (λ r-is.
       into ! (init ! 88 refl (stored W by-arrived (heldAs t) r-is .0)) $ move ! (2 ∷ 3 ∷ 1 ∷ 4 ∷ []) $
       returns-within ! (Done-related self h) refl (look ! 88 refl) $
-      leaves ! (‵ (Views u32 I ts) ∷ ‵ (Holds u32 J ms) ∷ ‵ (Holds Grid K ps) ∷ ‵ (Holds u16 Q gs) ∷ ‵ (Holds R L held-hops) ∷ ‵
+      leaves ! (‵ (Views u32 I ts) ∷ ‵ (Holds u32 J ms) ∷ ‵ (Holds Grid K ps) ∷ ‵ (Holds u16 Q gs) ∷
+      ‵ (Holds R L held-hops) ∷ ‵
       (Holds u16 N book) ∷ []) locals bs
-      (holds _ ∷ holds _ ∷ holds _ ∷ holds _ ∷ holds _ ∷ holds _ ∷ holds _ ∷ holds _ ∷ holds _ ∷ holds _ ∷ holds _ ∷ holds _ ∷ holds _ ∷
+      (holds _ ∷ holds _ ∷ holds _ ∷ holds _ ∷ holds _ ∷ holds _ ∷ holds _ ∷ holds _ ∷ holds _ ∷ holds _ ∷ holds _ ∷
+      holds _ ∷ holds _ ∷
       holds _ ∷ holds _ ∷
       empty ∷ empty ∷ holds _ ∷ holds _ ∷ holds _ ∷ holds _ ∷ holds _ ∷ holds _ ∷ holds _ ∷ holds _ ∷ holds _ ∷
       empty ∷ empty ∷ empty ∷ empty ∷ empty ∷ empty ∷ empty ∷ empty ∷
@@ -202,10 +208,12 @@ module _ {M : Type 1} (𝓤 : URA M) (H : Heap 𝓤) (A : Atoms 𝓤) (W : Given
       (init ! 6 refl (tt, (tt, (gauges-wt, tt)))) $
       move ! (2 ∷ 5 ∷ []) $
       -- [pairs; gauges; tables; messages; hops; book]
-      calls ! fm (finished-arrival-callee 𝓤 H A) (known .of-finished) (t, (last, ((K, end .pairs), ((Q, gs), tt)))) (t-is, (end-is, tt)) tt
+      calls ! fm (finished-arrival-callee 𝓤 H A) (known .of-finished) (t, (last, ((K, end .pairs), ((Q, gs), tt))))
+      (t-is, (end-is, tt)) tt
       refl
       (var ! 86 refl & var ! 56 refl & var ! 10 refl & var ! 6 refl & no-more !) (λ r-is.
-      into ! (init ! 88 refl (stored W by-arrived (arrivedAs t last) r-is .0)) $ move ! (2 ∷ 3 ∷ 0 ∷ 1 ∷ []) $ returns ! (look ! 88 refl) $
+      into ! (init ! 88 refl (stored W by-arrived (arrivedAs t last) r-is .0)) $ move ! (2 ∷ 3 ∷ 0 ∷ 1 ∷ []) $
+      returns ! (look ! 88 refl) $
       leaves ! (‵ (Views u32 I ts) ∷ ‵ (Holds u32 J ms) ∷ ‵ (Holds Grid K (finishedPairs last (end .pairs))) ∷ ‵
       (Holds u16 Q (finishedGauges last gs))
       ∷ ‵ (Holds R L (end .hops)) ∷ ‵ (Holds u16 N (end .book)) ∷ []) locals bs (full locals _) tt $
@@ -219,19 +227,32 @@ pub arrive-spec : {M : Type 1} → stated.statement M
 unfolding code.routine tablesOf
 arrive-spec 𝓤 H 𝓜 𝓖 𝓡 =
     let A = 𝓖 .A in
-    proved-own-related 𝓤 H 𝓜 𝓖 𝓡 code.env (arrive-callee 𝓤 H A) tt (λ κs qs. refl) (λ κs qs a g. factI 𝓤 (Unit {0}) _ tt)
+    proved-own-related 𝓤 H 𝓜 𝓖 𝓡 code.env (arrive-callee 𝓤 H A) tt (λ κs qs. refl)
+    (λ κs qs a g. factI 𝓤 (Unit {0}) _ tt)
     (λ κs qs a g r ws _ said. factI 𝓤 _ (emp 𝓤) said)
-    #arrive code.function (code.unfolded 𝓤 H 𝓜 𝓡) (λ h fit rooms _. walk 𝓤 H A (givenOf 𝓤 H 𝓜 𝓖) (own-tables 𝓤 H 𝓜 𝓖 𝓡 code.env) record {
-      of-place-of = cited 𝓤 H _ 𝓜 𝓡 code.env place-of-def.name _ code.calls-bench-engine·arriving·place-of (place-of-thm.met 𝓤 H 𝓜 𝓖 𝓡);
+    #arrive code.function (code.unfolded 𝓤 H 𝓜 𝓡) (λ h fit rooms _. walk 𝓤 H A (givenOf 𝓤 H 𝓜 𝓖)
+    (own-tables 𝓤 H 𝓜 𝓖 𝓡 code.env) record {
+      of-place-of = cited 𝓤 H _ 𝓜 𝓡 code.env place-of-def.name _ code.calls-bench-engine·arriving·place-of
+          (place-of-thm.met 𝓤 H 𝓜 𝓖 𝓡);
       of-read = cited 𝓤 H _ 𝓜 𝓡 code.env read-def.name _ code.calls-hops·read (read-thm.met 𝓤 H 𝓜 𝓖 𝓡);
-      of-refusal = cited 𝓤 H _ 𝓜 𝓡 code.env refusal-def.name _ code.calls-bench-engine·arriving·refusal (refusal-thm.met 𝓤 H 𝓜 𝓖 𝓡);
-      of-is-closed = cited 𝓤 H _ 𝓜 𝓡 code.env is-closed-def.name _ code.calls-bench-engine·arriving·is-closed (is-closed-thm.met 𝓤 H 𝓜 𝓖 𝓡);
-      of-closed = cited 𝓤 H _ 𝓜 𝓡 code.env closed-def.name _ code.calls-bench-engine·arriving·closed (closed-thm.met 𝓤 H 𝓜 𝓖 𝓡);
-      of-taken-of = cited 𝓤 H _ 𝓜 𝓡 code.env taken-of-def.name _ code.calls-bench-engine·arriving·taken-of (taken-of-thm.met 𝓤 H 𝓜 𝓖 𝓡);
-      of-set-state = cited 𝓤 H _ 𝓜 𝓡 code.env set-state-def.name _ code.calls-hops·set-state (set-state-thm.met 𝓤 H 𝓜 𝓖 𝓡);
-      of-is-held = cited 𝓤 H _ 𝓜 𝓡 code.env is-held-def.name _ code.calls-bench-engine·arriving·is-held (is-held-thm.met 𝓤 H 𝓜 𝓖 𝓡);
-      of-held = cited 𝓤 H _ 𝓜 𝓡 code.env held-def.name _ code.calls-bench-engine·arriving·held (held-thm.met 𝓤 H 𝓜 𝓖 𝓡);
-      of-begun = cited 𝓤 H _ 𝓜 𝓡 code.env begun-def.name _ code.calls-bench-engine·arriving·begun (begun-thm.met 𝓤 H 𝓜 𝓖 𝓡);
-      of-settle = cited 𝓤 H _ 𝓜 𝓡 code.env settle-def.name _ code.calls-bench-engine·arriving·settle (settle-thm.met 𝓤 H 𝓜 𝓖 𝓡);
-      of-finished = cited 𝓤 H _ 𝓜 𝓡 code.env finished-def.name _ code.calls-bench-engine·arriving·finished (finished-thm.met 𝓤 H 𝓜 𝓖 𝓡);
+      of-refusal = cited 𝓤 H _ 𝓜 𝓡 code.env refusal-def.name _ code.calls-bench-engine·arriving·refusal
+          (refusal-thm.met 𝓤 H 𝓜 𝓖 𝓡);
+      of-is-closed = cited 𝓤 H _ 𝓜 𝓡 code.env is-closed-def.name _ code.calls-bench-engine·arriving·is-closed
+          (is-closed-thm.met 𝓤 H 𝓜 𝓖 𝓡);
+      of-closed = cited 𝓤 H _ 𝓜 𝓡 code.env closed-def.name _ code.calls-bench-engine·arriving·closed
+          (closed-thm.met 𝓤 H 𝓜 𝓖 𝓡);
+      of-taken-of = cited 𝓤 H _ 𝓜 𝓡 code.env taken-of-def.name _ code.calls-bench-engine·arriving·taken-of
+          (taken-of-thm.met 𝓤 H 𝓜 𝓖 𝓡);
+      of-set-state = cited 𝓤 H _ 𝓜 𝓡 code.env set-state-def.name _ code.calls-hops·set-state
+          (set-state-thm.met 𝓤 H 𝓜 𝓖 𝓡);
+      of-is-held = cited 𝓤 H _ 𝓜 𝓡 code.env is-held-def.name _ code.calls-bench-engine·arriving·is-held
+          (is-held-thm.met 𝓤 H 𝓜 𝓖 𝓡);
+      of-held = cited 𝓤 H _ 𝓜 𝓡 code.env held-def.name _ code.calls-bench-engine·arriving·held
+          (held-thm.met 𝓤 H 𝓜 𝓖 𝓡);
+      of-begun = cited 𝓤 H _ 𝓜 𝓡 code.env begun-def.name _ code.calls-bench-engine·arriving·begun
+          (begun-thm.met 𝓤 H 𝓜 𝓖 𝓡);
+      of-settle = cited 𝓤 H _ 𝓜 𝓡 code.env settle-def.name _ code.calls-bench-engine·arriving·settle
+          (settle-thm.met 𝓤 H 𝓜 𝓖 𝓡);
+      of-finished = cited 𝓤 H _ 𝓜 𝓡 code.env finished-def.name _ code.calls-bench-engine·arriving·finished
+          (finished-thm.met 𝓤 H 𝓜 𝓖 𝓡);
     } h fit rooms)

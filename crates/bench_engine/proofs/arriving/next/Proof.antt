@@ -1,9 +1,9 @@
 -- `next` meets its contract: a walk of its MIR, by hand. Each call is one step (`calls`); the shared slice is lent on to `next_of_pair` and
 -- to `state_at`.
-use Rattle.hand_proofs.proofs.Prelude.{refl, [], _∷_, List, ℕ, URA, emp, Heap, Tables, Atoms, fmOf, factI, givenOf, tablesOf, Given, ‵, _$_}
-use Rattle.hand_proofs.proofs.Prelude.{ !, check, done, look, init, no-more, returns, Triple, cited, stored, Loan, Views, Handed, Fit}
-use Rattle.hand_proofs.proofs.Prelude.{contractOf, calls, Duty, Rooms, suited, Goes, starts, duty, own-tables, proved-own, var, _&_, into}
-use Rattle.hand_proofs.proofs.Prelude.{full, leaves}
+use Rattle.hand_proofs.proofs.Prelude.{refl, [], _∷_, List, ℕ, URA, emp, Heap, Tables, Atoms, fmOf, factI, givenOf, tablesOf, Given}
+use Rattle.hand_proofs.proofs.Prelude.{‵, _$_, !, check, done, look, init, no-more, returns, Triple, cited, stored, Loan, Views, Handed}
+use Rattle.hand_proofs.proofs.Prelude.{Fit, contractOf, calls, Duty, Rooms, suited, Goes, starts, duty, own-tables, proved-own, var, _&_}
+use Rattle.hand_proofs.proofs.Prelude.{into, full, leaves}
 use Rattle.model.specs.declared.Hop.{Hop}
 use Rattle.model.specs.Network.{hopAt}
 use Rattle.hops.proofs.Records.{R}
@@ -41,7 +41,8 @@ record Known {M : Type 1} (𝓤 : URA M) (H : Heap 𝓤) (A : Atoms 𝓤) (𝓣 
   of-state-at : Triple 𝓤 (𝓣 .C state-at-def.name) (contractOf (state-at-callee 𝓤 H A))
   of-moved : Triple 𝓤 (𝓣 .C moved-def.name) (contractOf (moved-callee 𝓤 H A))
 
-module _ {M : Type 1} (𝓤 : URA M) (H : Heap 𝓤) (A : Atoms 𝓤) (W : Given 𝓤 H A) (𝓣 : Tables 𝓤 H) (known : Known 𝓤 H A 𝓣) where
+module _ {M : Type 1} (𝓤 : URA M) (H : Heap 𝓤) (A : Atoms 𝓤) (W : Given 𝓤 H A) (𝓣 : Tables 𝓤 H)
+    (known : Known 𝓤 H A 𝓣) where
   abbrev self : Duty 𝓤 H A
   self = duty (next-callee 𝓤 H A)
 
@@ -83,14 +84,20 @@ next-spec 𝓤 H 𝓜 𝓖 𝓡 =
     let A = 𝓖 .A in
     proved-own 𝓤 H 𝓜 𝓖 𝓡 code.env (next-callee 𝓤 H A) tt (λ κs qs. refl) (λ κs qs a g. factI 𝓤 (Unit {0}) _ tt)
     (λ κs qs a g ws _ e. factI 𝓤 _ (emp 𝓤) refl)
-    #next code.function (code.unfolded 𝓤 H 𝓜 𝓡) (λ h fit rooms _. walk 𝓤 H A (givenOf 𝓤 H 𝓜 𝓖) (own-tables 𝓤 H 𝓜 𝓖 𝓡 code.env) record {
+    #next code.function (code.unfolded 𝓤 H 𝓜 𝓡) (λ h fit rooms _. walk 𝓤 H A (givenOf 𝓤 H 𝓜 𝓖)
+    (own-tables 𝓤 H 𝓜 𝓖 𝓡 code.env) record {
       of-search-from = cited 𝓤 H _ 𝓜 𝓡 code.env search-from-def.name _ code.calls-bench-engine·arriving·search-from
           (search-from-thm.met 𝓤 H 𝓜 𝓖 𝓡);
       of-search-end = cited 𝓤 H _ 𝓜 𝓡 code.env search-end-def.name _ code.calls-bench-engine·arriving·search-end
           (search-end-thm.met 𝓤 H 𝓜 𝓖 𝓡);
-      of-sender = cited 𝓤 H _ 𝓜 𝓡 code.env sender-def.name _ code.calls-bench-engine·arriving·sender (sender-thm.met 𝓤 H 𝓜 𝓖 𝓡);
-      of-receiver = cited 𝓤 H _ 𝓜 𝓡 code.env receiver-def.name _ code.calls-bench-engine·arriving·receiver (receiver-thm.met 𝓤 H 𝓜 𝓖 𝓡);
-      of-next-of-pair = cited 𝓤 H _ 𝓜 𝓡 code.env next-of-pair-def.name _ code.calls-hops·next-of-pair (next-of-pair-thm.met 𝓤 H 𝓜 𝓖 𝓡);
-      of-state-at = cited 𝓤 H _ 𝓜 𝓡 code.env state-at-def.name _ code.calls-hops·state-at (state-at-thm.met 𝓤 H 𝓜 𝓖 𝓡);
-      of-moved = cited 𝓤 H _ 𝓜 𝓡 code.env moved-def.name _ code.calls-bench-engine·arriving·moved (moved-thm.met 𝓤 H 𝓜 𝓖 𝓡);
+      of-sender = cited 𝓤 H _ 𝓜 𝓡 code.env sender-def.name _ code.calls-bench-engine·arriving·sender
+          (sender-thm.met 𝓤 H 𝓜 𝓖 𝓡);
+      of-receiver = cited 𝓤 H _ 𝓜 𝓡 code.env receiver-def.name _ code.calls-bench-engine·arriving·receiver
+          (receiver-thm.met 𝓤 H 𝓜 𝓖 𝓡);
+      of-next-of-pair = cited 𝓤 H _ 𝓜 𝓡 code.env next-of-pair-def.name _ code.calls-hops·next-of-pair
+          (next-of-pair-thm.met 𝓤 H 𝓜 𝓖 𝓡);
+      of-state-at = cited 𝓤 H _ 𝓜 𝓡 code.env state-at-def.name _ code.calls-hops·state-at
+          (state-at-thm.met 𝓤 H 𝓜 𝓖 𝓡);
+      of-moved = cited 𝓤 H _ 𝓜 𝓡 code.env moved-def.name _ code.calls-bench-engine·arriving·moved
+          (moved-thm.met 𝓤 H 𝓜 𝓖 𝓡);
     } h fit rooms)

@@ -1,11 +1,11 @@
 -- `settle` meets its contract: a walk of its MIR, by hand. A turn of the loop calls `is_going`, lends the slices to `take`, and shows the
 -- hops to `next`; the loop keeps that the arrival leads to the end that the start leads to (`Leads` of Turns.antt in bench_promises).
 use mathlib.Core.Path.{_≡_}
-use Rattle.hand_proofs.proofs.Prelude.{refl, ap, subst, [], _∷_, List, WellFounded, InvImage·wf, ℕ, _<_, T, Nat·lt-wfRel, URA, vbool, emp}
-use Rattle.hand_proofs.proofs.Prelude.{Heap, Env, Tables, afterTurn, Atoms, fmOf, factI, givenOf, tablesOf, Given, Item, Sq, runs, atRet}
-use Rattle.hand_proofs.proofs.Prelude.{anyQ, ‵, _$_, !, move, rewrite, check, done, look, init, store, forget, of-opd, no-more, first}
-use Rattle.hand_proofs.proofs.Prelude.{blocks, exec, again, loops, returns, Is, u16, Triple, cited, stored, Loan, slice, Holds, Views}
-use Rattle.hand_proofs.proofs.Prelude.{Handed, Fit, contractOf, calls, calls-last, Duty, Rooms, suited, Goes, starts, duty, Done-at}
+use Rattle.hand_proofs.proofs.Prelude.{refl, ap, subst, [], _∷_, List, WellFounded, InvImage·wf, ℕ, _<_, T, Nat·lt-wfRel, URA, vbool}
+use Rattle.hand_proofs.proofs.Prelude.{emp, Heap, Env, Tables, afterTurn, Atoms, fmOf, factI, givenOf, tablesOf, Given, Item, Sq, runs}
+use Rattle.hand_proofs.proofs.Prelude.{atRet, anyQ, ‵, _$_, !, move, rewrite, check, done, look, init, store, forget, of-opd, no-more}
+use Rattle.hand_proofs.proofs.Prelude.{first, blocks, exec, again, loops, returns, Is, u16, Triple, cited, stored, Loan, slice, Holds}
+use Rattle.hand_proofs.proofs.Prelude.{Views, Handed, Fit, contractOf, calls, calls-last, Duty, Rooms, suited, Goes, starts, duty, Done-at}
 use Rattle.hand_proofs.proofs.Prelude.{own-tables, proved-own, var, ptr-of, slice-of, _&_, sets, into, into-last, Holding, empty, holds}
 use Rattle.hand_proofs.proofs.Prelude.{envAt, stack, Blocks, leaves, while-test, Turned}
 use denote.Builtin.{u32}
@@ -83,16 +83,19 @@ module _ {M : Type 1} (𝓤 : URA M) (H : Heap 𝓤) (A : Atoms 𝓤) (W : Given
         -- what the locals hold where a turn begins or the function ends: the result, the arrival, and the test
         abbrev vs : Holding → Going → Holding → List Holding
         vs r i test =
-            r ∷ holds (by-arrival .word start) ∷ holds (slice I) ∷ holds (slice J) ∷ holds (slice K) ∷ holds (slice L) ∷ holds (slice N) ∷
+            r ∷ holds (by-arrival .word start) ∷ holds (slice I) ∷ holds (slice J) ∷ holds (slice K) ∷
+            holds (slice L) ∷ holds (slice N) ∷
             holds (by-arrival .word (i .a)) ∷
             empty ∷ test ∷ empty ∷ empty ∷ empty ∷ empty ∷ empty ∷ empty ∷ empty ∷ empty ∷ empty ∷ empty ∷ []
 
         -- the invariant: [tables; messages; pairs; hops; book; the locals, the last first]
         abbrev At : Going → List (Item 𝓤)
-        At i = ‵ (Views u32 I ts) ∷ ‵ (Holds u32 J ms) ∷ ‵ (Holds Grid K (i .ps)) ∷ ‵ (Holds R L (i .hs)) ∷ ‵ (Holds u16 N (i .book)) ∷
+        At i = ‵ (Views u32 I ts) ∷ ‵ (Holds u32 J ms) ∷ ‵ (Holds Grid K (i .ps)) ∷ ‵ (Holds R L (i .hs)) ∷
+            ‵ (Holds u16 N (i .book)) ∷
             stack locals bs (vs empty i empty) []
 
-        turns : (i : Going) → Sq W (At i) (runs (𝓣 .C) (𝓣 .Λ) En turn-1 (anyQ (Turned 𝓤 H A 𝓣 En t-3 (Done-at self h) Nearer At i)))
+        turns : (i : Going) → Sq W (At i) (runs (𝓣 .C) (𝓣 .Λ) En turn-1
+            (anyQ (Turned 𝓤 H A 𝓣 En t-3 (Done-at self h) Nearer At i)))
         unfolding afterTurn
         turns i =
             let fm = fmOf 𝓤 H (W .laws) 𝓣 in let b : Arrival = takeArrival ts ms (i .a) (i .ps) (i .hs) in
@@ -115,7 +118,8 @@ module _ {M : Type 1} (𝓤 : URA M) (H : Heap 𝓤) (A : Atoms 𝓤) (W : Given
             sets ! (ptr-of ! 33 refl refl) (init ! 7 refl (tt, tt)) $
             sets ! (slice-of ! 7 33 refl refl refl) (init ! 5 refl (tt, (tt, (record { fits = rooms .1 .1 .1 .0 .0 .0 }, tt)))) $
             move ! (3 ∷ []) $
-            calls-last ! fm (next-shown-callee 𝓤 H A) (known .of-next) (b, ((L, takeHops ts ms (i .a) (i .ps) (i .hs)), tt)) (b-is, tt) tt
+            calls-last ! fm (next-shown-callee 𝓤 H A) (known .of-next)
+            (b, ((L, takeHops ts ms (i .a) (i .ps) (i .hs)), tt)) (b-is, tt) tt
             refl
             (var ! 27 refl & var ! 5 refl & no-more !) (λ is. into-last ! (store ! 29 refl (stored W by-arrival (later i) is .0)) $
             move ! (1 ∷ 2 ∷ 3 ∷ []) $
@@ -164,11 +168,16 @@ settle-spec 𝓤 H 𝓜 𝓖 𝓡 =
       ap (λ es. es .1 .1 .1 .0) e,
     ))
     #settle code.function (code.unfolded 𝓤 H 𝓜 𝓡)
-    (λ h fit rooms _. walk 𝓤 H A (givenOf 𝓤 H 𝓜 𝓖) (h .0) (h .1 .0 .0) (h .1 .0 .1) (h .1 .1 .0 .0) (h .1 .1 .0 .1) (h .1 .1 .1 .0 .0)
+    (λ h fit rooms _. walk 𝓤 H A (givenOf 𝓤 H 𝓜 𝓖) (h .0) (h .1 .0 .0) (h .1 .0 .1) (h .1 .1 .0 .0)
+    (h .1 .1 .0 .1) (h .1 .1 .1 .0 .0)
     (h .1 .1 .1 .0 .1)
-    (h .1 .1 .1 .1 .0 .0) (h .1 .1 .1 .1 .0 .1) (h .1 .1 .1 .1 .1 .0 .0) (h .1 .1 .1 .1 .1 .0 .1) fit rooms (own-tables 𝓤 H 𝓜 𝓖 𝓡 code.env)
+    (h .1 .1 .1 .1 .0 .0) (h .1 .1 .1 .1 .0 .1) (h .1 .1 .1 .1 .1 .0 .0) (h .1 .1 .1 .1 .1 .0 .1) fit rooms
+    (own-tables 𝓤 H 𝓜 𝓖 𝓡 code.env)
     record {
-      of-is-going = cited 𝓤 H _ 𝓜 𝓡 code.env is-going-def.name _ code.calls-bench-engine·arriving·is-going (is-going-thm.met 𝓤 H 𝓜 𝓖 𝓡);
-      of-take = cited 𝓤 H _ 𝓜 𝓡 code.env take-def.name _ code.calls-bench-engine·arriving·take (take-thm.met 𝓤 H 𝓜 𝓖 𝓡);
-      of-next = cited 𝓤 H _ 𝓜 𝓡 code.env next-def.name _ code.calls-bench-engine·arriving·next (next-thm.met 𝓤 H 𝓜 𝓖 𝓡);
+      of-is-going = cited 𝓤 H _ 𝓜 𝓡 code.env is-going-def.name _ code.calls-bench-engine·arriving·is-going
+          (is-going-thm.met 𝓤 H 𝓜 𝓖 𝓡);
+      of-take = cited 𝓤 H _ 𝓜 𝓡 code.env take-def.name _ code.calls-bench-engine·arriving·take
+          (take-thm.met 𝓤 H 𝓜 𝓖 𝓡);
+      of-next = cited 𝓤 H _ 𝓜 𝓡 code.env next-def.name _ code.calls-bench-engine·arriving·next
+          (next-thm.met 𝓤 H 𝓜 𝓖 𝓡);
     })

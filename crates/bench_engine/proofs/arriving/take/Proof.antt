@@ -52,7 +52,8 @@ record Known {M : Type 1} (𝓤 : URA M) (H : Heap 𝓤) (A : Atoms 𝓤) (𝓣 
   of-forward : Triple 𝓤 (𝓣 .C forward-def.name) (contractOf (forward-callee 𝓤 H A))
   of-after-copy : Triple 𝓤 (𝓣 .C after-copy-def.name) (contractOf (after-copy-callee 𝓤 H A))
 
-module _ {M : Type 1} (𝓤 : URA M) (H : Heap 𝓤) (A : Atoms 𝓤) (W : Given 𝓤 H A) (𝓣 : Tables 𝓤 H) (known : Known 𝓤 H A 𝓣) where
+module _ {M : Type 1} (𝓤 : URA M) (H : Heap 𝓤) (A : Atoms 𝓤) (W : Given 𝓤 H A) (𝓣 : Tables 𝓤 H)
+    (known : Known 𝓤 H A 𝓣) where
   abbrev self : Duty 𝓤 H A
   self = duty (take-callee 𝓤 H A)
 
@@ -94,7 +95,8 @@ module _ {M : Type 1} (𝓤 : URA M) (H : Heap 𝓤) (A : Atoms 𝓤) (W : Given
       (init ! 17 refl (tt, (tt, (messages-wt, tt)))) $
       move ! (1 ∷ 2 ∷ []) $
       -- [tables; messages; hops; pairs; book]
-      calls ! fm (delivery-to-callee 𝓤 H A) (known .of-delivery-to) (a .receiver, (m, ((I, ts), ((J, ms), tt)))) (to-is, (m-is, tt)) tt refl
+      calls ! fm (delivery-to-callee 𝓤 H A) (known .of-delivery-to) (a .receiver, (m, ((I, ts), ((J, ms), tt))))
+      (to-is, (m-is, tt)) tt refl
       (var ! 37 refl & var ! 39 refl & var ! 51 refl & var ! 17 refl & no-more !)
       (λ d-is. into ! (init ! 35 refl (stored W by-delivery d d-is .0)) $
       sets ! (ptr-of ! 43 refl refl) (init ! 15 refl (tt, tt)) $ sets ! (slice-of ! 15 43 refl refl refl)
@@ -135,15 +137,22 @@ take-spec 𝓤 H 𝓜 𝓖 𝓡 =
       ap (λ es. es .1 .1 .0) e,
       ap (λ es. es .1 .1 .1 .0) e,
     ))
-    #take code.function (code.unfolded 𝓤 H 𝓜 𝓡) (λ h fit rooms _. walk 𝓤 H A (givenOf 𝓤 H 𝓜 𝓖) (own-tables 𝓤 H 𝓜 𝓖 𝓡 code.env) record {
-      of-place = cited 𝓤 H _ 𝓜 𝓡 code.env place-def.name _ code.calls-bench-engine·arriving·place (place-thm.met 𝓤 H 𝓜 𝓖 𝓡);
-      of-message-at = cited 𝓤 H _ 𝓜 𝓡 code.env message-at-def.name _ code.calls-hops·message-at (message-at-thm.met 𝓤 H 𝓜 𝓖 𝓡);
-      of-set-state = cited 𝓤 H _ 𝓜 𝓡 code.env set-state-def.name _ code.calls-hops·set-state (set-state-thm.met 𝓤 H 𝓜 𝓖 𝓡);
-      of-receiver = cited 𝓤 H _ 𝓜 𝓡 code.env receiver-def.name _ code.calls-bench-engine·arriving·receiver (receiver-thm.met 𝓤 H 𝓜 𝓖 𝓡);
+    #take code.function (code.unfolded 𝓤 H 𝓜 𝓡) (λ h fit rooms _. walk 𝓤 H A (givenOf 𝓤 H 𝓜 𝓖)
+    (own-tables 𝓤 H 𝓜 𝓖 𝓡 code.env) record {
+      of-place = cited 𝓤 H _ 𝓜 𝓡 code.env place-def.name _ code.calls-bench-engine·arriving·place
+          (place-thm.met 𝓤 H 𝓜 𝓖 𝓡);
+      of-message-at = cited 𝓤 H _ 𝓜 𝓡 code.env message-at-def.name _ code.calls-hops·message-at
+          (message-at-thm.met 𝓤 H 𝓜 𝓖 𝓡);
+      of-set-state = cited 𝓤 H _ 𝓜 𝓡 code.env set-state-def.name _ code.calls-hops·set-state
+          (set-state-thm.met 𝓤 H 𝓜 𝓖 𝓡);
+      of-receiver = cited 𝓤 H _ 𝓜 𝓡 code.env receiver-def.name _ code.calls-bench-engine·arriving·receiver
+          (receiver-thm.met 𝓤 H 𝓜 𝓖 𝓡);
       of-delivery-to = cited 𝓤 H _ 𝓜 𝓡 code.env delivery-to-def.name _ code.calls-bench-engine·arriving·delivery-to
           (delivery-to-thm.met 𝓤 H 𝓜 𝓖 𝓡);
-      of-log-copy = cited 𝓤 H _ 𝓜 𝓡 code.env log-copy-def.name _ code.calls-bench-engine·arriving·log-copy (log-copy-thm.met 𝓤 H 𝓜 𝓖 𝓡);
-      of-outgoing = cited 𝓤 H _ 𝓜 𝓡 code.env outgoing-def.name _ code.calls-bench-engine·arriving·outgoing (outgoing-thm.met 𝓤 H 𝓜 𝓖 𝓡);
+      of-log-copy = cited 𝓤 H _ 𝓜 𝓡 code.env log-copy-def.name _ code.calls-bench-engine·arriving·log-copy
+          (log-copy-thm.met 𝓤 H 𝓜 𝓖 𝓡);
+      of-outgoing = cited 𝓤 H _ 𝓜 𝓡 code.env outgoing-def.name _ code.calls-bench-engine·arriving·outgoing
+          (outgoing-thm.met 𝓤 H 𝓜 𝓖 𝓡);
       of-forward = cited 𝓤 H _ 𝓜 𝓡 code.env forward-def.name _ code.calls-hops·forward (forward-thm.met 𝓤 H 𝓜 𝓖 𝓡);
       of-after-copy = cited 𝓤 H _ 𝓜 𝓡 code.env after-copy-def.name _ code.calls-bench-engine·arriving·after-copy
           (after-copy-thm.met 𝓤 H 𝓜 𝓖 𝓡);

@@ -1,9 +1,9 @@
 -- `rest` meets its contract: a walk of its MIR, by hand. `rested` answers by the number of hops lent, which keeps the promise.
-use Rattle.hand_proofs.proofs.Prelude.{refl, ap, subst, [], _∷_, List, ℕ, _<_, _^_, length, URA, w64, vint, emp, Heap, Tables, Atoms, fmOf}
-use Rattle.hand_proofs.proofs.Prelude.{factI, givenOf, tablesOf, Given, ‵, _$_, !, look, init, of-opd, no-more, returns, Triple, cited}
-use Rattle.hand_proofs.proofs.Prelude.{stored, Loan, Views, Handed, Fit, contractOf, calls, Rooms, suited, RelationalDuty, Goes-related}
-use Rattle.hand_proofs.proofs.Prelude.{starts-related, duty-related, concludes, own-tables, proved-own-related, var, len-of, _&_, equals}
-use Rattle.hand_proofs.proofs.Prelude.{sets, into, full, leaves}
+use Rattle.hand_proofs.proofs.Prelude.{refl, ap, subst, [], _∷_, List, ℕ, _<_, _^_, length, URA, w64, vint, emp, Heap, Tables, Atoms}
+use Rattle.hand_proofs.proofs.Prelude.{fmOf, factI, givenOf, tablesOf, Given, ‵, _$_, !, look, init, of-opd, no-more, returns, Triple}
+use Rattle.hand_proofs.proofs.Prelude.{cited, stored, Loan, Views, Handed, Fit, contractOf, calls, Rooms, suited, RelationalDuty}
+use Rattle.hand_proofs.proofs.Prelude.{Goes-related, starts-related, duty-related, concludes, own-tables, proved-own-related, var, len-of}
+use Rattle.hand_proofs.proofs.Prelude.{_&_, equals, sets, into, full, leaves}
 use Rattle.model.specs.declared.Hop.{Hop}
 use Rattle.hops.proofs.Records.{R}
 use Rattle.bench_promises.specs.declared.Totals.{Totals}
@@ -22,7 +22,8 @@ use Rattle.bench_engine.proofs.looking.rest.Code.Mir.{locals}
 record Known {M : Type 1} (𝓤 : URA M) (H : Heap 𝓤) (A : Atoms 𝓤) (𝓣 : Tables 𝓤 H) : Type 2 where
   of-rested : Triple 𝓤 (𝓣 .C rested-def.name) (contractOf (rested-callee 𝓤 H A))
 
-module _ {M : Type 1} (𝓤 : URA M) (H : Heap 𝓤) (A : Atoms 𝓤) (W : Given 𝓤 H A) (𝓣 : Tables 𝓤 H) (known : Known 𝓤 H A 𝓣) where
+module _ {M : Type 1} (𝓤 : URA M) (H : Heap 𝓤) (A : Atoms 𝓤) (W : Given 𝓤 H A) (𝓣 : Tables 𝓤 H)
+    (known : Known 𝓤 H A 𝓣) where
   abbrev self : RelationalDuty 𝓤 H A
   self = duty-related (rest-callee 𝓤 H A)
 
@@ -44,8 +45,11 @@ pub rest-spec : {M : Type 1} → stated.statement M
 unfolding code.routine tablesOf
 rest-spec 𝓤 H 𝓜 𝓖 𝓡 =
     let A = 𝓖 .A in
-    proved-own-related 𝓤 H 𝓜 𝓖 𝓡 code.env (rest-callee 𝓤 H A) tt (λ κs qs. refl) (λ κs qs a g. factI 𝓤 (Unit {0}) _ tt)
+    proved-own-related 𝓤 H 𝓜 𝓖 𝓡 code.env (rest-callee 𝓤 H A) tt (λ κs qs. refl)
+    (λ κs qs a g. factI 𝓤 (Unit {0}) _ tt)
     (λ κs qs a g r ws _ said. factI 𝓤 _ (emp 𝓤) said)
-    #rest code.function (code.unfolded 𝓤 H 𝓜 𝓡) (λ h fit rooms _. walk 𝓤 H A (givenOf 𝓤 H 𝓜 𝓖) (own-tables 𝓤 H 𝓜 𝓖 𝓡 code.env) record {
-      of-rested = cited 𝓤 H _ 𝓜 𝓡 code.env rested-def.name _ code.calls-bench-engine·looking·rested (rested-thm.met 𝓤 H 𝓜 𝓖 𝓡);
+    #rest code.function (code.unfolded 𝓤 H 𝓜 𝓡) (λ h fit rooms _. walk 𝓤 H A (givenOf 𝓤 H 𝓜 𝓖)
+    (own-tables 𝓤 H 𝓜 𝓖 𝓡 code.env) record {
+      of-rested = cited 𝓤 H _ 𝓜 𝓡 code.env rested-def.name _ code.calls-bench-engine·looking·rested
+          (rested-thm.met 𝓤 H 𝓜 𝓖 𝓡);
     } h fit rooms)

@@ -5,9 +5,9 @@ use mathlib.Core.Path.{_≡_, sym}
 use mathlib.Core.Bool.{Bool, true, false, not}
 use lib.Dec.{eqb}
 use Rattle.hand_proofs.proofs.Prelude.{refl, ap, subst, [], _∷_, List, ℕ, _<_, _^_, length, set, URA, w64, WT, vint, emp, Heap, Tables}
-use Rattle.hand_proofs.proofs.Prelude.{Atoms, fmOf, factI, givenOf, tablesOf, Given, ‵, _$_, !, move, look, init, of-opd, no-more, returns}
-use Rattle.hand_proofs.proofs.Prelude.{returns-within, Triple, cited, stored, Loan, Holds, Views, Handed, Fit, contractOf, calls, Rooms}
-use Rattle.hand_proofs.proofs.Prelude.{suited, RelationalDuty, Goes-related, starts-related, duty-related, Done-related, concludes}
+use Rattle.hand_proofs.proofs.Prelude.{Atoms, fmOf, factI, givenOf, tablesOf, Given, ‵, _$_, !, move, look, init, of-opd, no-more}
+use Rattle.hand_proofs.proofs.Prelude.{returns, returns-within, Triple, cited, stored, Loan, Holds, Views, Handed, Fit, contractOf, calls}
+use Rattle.hand_proofs.proofs.Prelude.{Rooms, suited, RelationalDuty, Goes-related, starts-related, duty-related, Done-related, concludes}
 use Rattle.hand_proofs.proofs.Prelude.{own-tables, proved-own-related, var, ptr-of, len-of, slice-of, _&_, equals, sets, into, full, empty}
 use Rattle.hand_proofs.proofs.Prelude.{holds, leaves, if-then}
 use denote.Builtin.{u32}
@@ -71,7 +71,8 @@ no-refusal n e = flip (eqb n 0) e
     flip true p = refl
     flip false p = sym p
 
-module _ {M : Type 1} (𝓤 : URA M) (H : Heap 𝓤) (A : Atoms 𝓤) (W : Given 𝓤 H A) (𝓣 : Tables 𝓤 H) (known : Known 𝓤 H A 𝓣) where
+module _ {M : Type 1} (𝓤 : URA M) (H : Heap 𝓤) (A : Atoms 𝓤) (W : Given 𝓤 H A) (𝓣 : Tables 𝓤 H)
+    (known : Known 𝓤 H A 𝓣) where
   abbrev self : RelationalDuty 𝓤 H A
   self = duty-related (send-callee 𝓤 H A)
 
@@ -140,7 +141,8 @@ module _ {M : Type 1} (𝓤 : URA M) (H : Heap 𝓤) (A : Atoms 𝓤) (W : Given
       (t-is, (s-is, (g-is, (w-is, tt)))) tt refl
       (var ! 44 refl & var ! 42 refl & var ! 40 refl & var ! 38 refl & var ! 36 refl & var ! 4 refl & no-more !) (λ r-is.
       into ! (init ! 46 refl (stored W by-sent (sentAs t ts g) r-is .0)) $ returns ! (look ! 46 refl) $
-      leaves ! (‵ (Views u32 I ts) ∷ ‵ (Holds u32 J (recordedMessages t s g w ms)) ∷ ‵ (Holds Grid K (recordedPairs ts s g ps)) ∷ ‵
+      leaves ! (‵ (Views u32 I ts) ∷ ‵ (Holds u32 J (recordedMessages t s g w ms)) ∷
+      ‵ (Holds Grid K (recordedPairs ts s g ps)) ∷ ‵
       (Holds R L (set hs (t .made) hop)) ∷ []) locals bs
       (full locals _) tt $
       concludes ! self h (sentAs t ts g) (recordedMessages t s g w ms, (recordedPairs ts s g ps, (set hs (t .made) hop, tt))) r-is
@@ -150,17 +152,24 @@ pub send-spec : {M : Type 1} → stated.statement M
 unfolding code.routine tablesOf
 send-spec 𝓤 H 𝓜 𝓖 𝓡 =
     let A = 𝓖 .A in
-    proved-own-related 𝓤 H 𝓜 𝓖 𝓡 code.env (send-callee 𝓤 H A) tt (λ κs qs. refl) (λ κs qs a g. factI 𝓤 (Unit {0}) _ tt)
+    proved-own-related 𝓤 H 𝓜 𝓖 𝓡 code.env (send-callee 𝓤 H A) tt (λ κs qs. refl)
+    (λ κs qs a g. factI 𝓤 (Unit {0}) _ tt)
     (λ κs qs a g r ws _ said. factI 𝓤 _ (emp 𝓤) said)
-    #send code.function (code.unfolded 𝓤 H 𝓜 𝓡) (λ h fit rooms _. walk 𝓤 H A (givenOf 𝓤 H 𝓜 𝓖) (own-tables 𝓤 H 𝓜 𝓖 𝓡 code.env) record {
-      of-refusal = cited 𝓤 H _ 𝓜 𝓡 code.env refusal-def.name _ code.calls-bench-engine·sending·refusal (refusal-thm.met 𝓤 H 𝓜 𝓖 𝓡);
+    #send code.function (code.unfolded 𝓤 H 𝓜 𝓡) (λ h fit rooms _. walk 𝓤 H A (givenOf 𝓤 H 𝓜 𝓖)
+    (own-tables 𝓤 H 𝓜 𝓖 𝓡 code.env) record {
+      of-refusal = cited 𝓤 H _ 𝓜 𝓡 code.env refusal-def.name _ code.calls-bench-engine·sending·refusal
+          (refusal-thm.met 𝓤 H 𝓜 𝓖 𝓡);
       of-is-refused = cited 𝓤 H _ 𝓜 𝓡 code.env is-refused-def.name _ code.calls-bench-engine·sending·is-refused
           (is-refused-thm.met 𝓤 H 𝓜 𝓖 𝓡);
       of-turned-away = cited 𝓤 H _ 𝓜 𝓡 code.env turned-away-def.name _ code.calls-bench-engine·sending·turned-away
           (turned-away-thm.met 𝓤 H 𝓜 𝓖 𝓡);
-      of-count-hop = cited 𝓤 H _ 𝓜 𝓡 code.env count-hop-def.name _ code.calls-bench-engine·sending·count-hop (count-hop-thm.met 𝓤 H 𝓜 𝓖 𝓡);
-      of-first-hop = cited 𝓤 H _ 𝓜 𝓡 code.env first-hop-def.name _ code.calls-bench-engine·sending·first-hop (first-hop-thm.met 𝓤 H 𝓜 𝓖 𝓡);
-      of-place = cited 𝓤 H _ 𝓜 𝓡 code.env place-def.name _ code.calls-bench-engine·sending·place (place-thm.met 𝓤 H 𝓜 𝓖 𝓡);
+      of-count-hop = cited 𝓤 H _ 𝓜 𝓡 code.env count-hop-def.name _ code.calls-bench-engine·sending·count-hop
+          (count-hop-thm.met 𝓤 H 𝓜 𝓖 𝓡);
+      of-first-hop = cited 𝓤 H _ 𝓜 𝓡 code.env first-hop-def.name _ code.calls-bench-engine·sending·first-hop
+          (first-hop-thm.met 𝓤 H 𝓜 𝓖 𝓡);
+      of-place = cited 𝓤 H _ 𝓜 𝓡 code.env place-def.name _ code.calls-bench-engine·sending·place
+          (place-thm.met 𝓤 H 𝓜 𝓖 𝓡);
       of-append = cited 𝓤 H _ 𝓜 𝓡 code.env append-def.name _ code.calls-hops·append (append-thm.met 𝓤 H 𝓜 𝓖 𝓡);
-      of-finished = cited 𝓤 H _ 𝓜 𝓡 code.env finished-def.name _ code.calls-bench-engine·sending·finished (finished-thm.met 𝓤 H 𝓜 𝓖 𝓡);
+      of-finished = cited 𝓤 H _ 𝓜 𝓡 code.env finished-def.name _ code.calls-bench-engine·sending·finished
+          (finished-thm.met 𝓤 H 𝓜 𝓖 𝓡);
     } h fit rooms)

@@ -13,7 +13,8 @@ use Rattle.benchfile.proofs.events.copy.Statement.{statement}
 use Rattle.benchfile.proofs.events.copy.Tie as tie
 
 -- so many are written as the text, its part asked for, or the list has: the part is written
-all-written : (t list left : List ℕ) (n i k : ℕ) → Written (take i t) 0 list i left → i ≤ n → (i ≡ n) ⊎ (i ≡ k) → (k ≡ length t) ⊎ (k ≡ length list)
+all-written : (t list left : List ℕ) (n i k : ℕ) → Written (take i t) 0 list i left → i ≤ n → (i ≡ n) ⊎ (i ≡ k)
+    → (k ≡ length t) ⊎ (k ≡ length list)
     → Written (take n t) 0 list i left
 all-written t list left n i k w within one other = ⊎-elim
     (λ (e : i ≡ n). subst (λ (j : ℕ). Written (take j t) 0 list i left) e w)
@@ -24,7 +25,8 @@ all-written t list left n i k w within one other = ⊎-elim
     (λ (f : k ≡ length list).
     let full : length left ≤ i = omega (arith, written-length w) in let sum : i + (n - i) ≡ n = omega arith in
     subst (λ (j : ℕ). Written (take j t) 0 list i left) sum
-    (subst (λ (l : List ℕ). Written l 0 list i left) (sym (take-add i (n - i) t)) (written-append w (written-over (take (n - i) (drop i t)) i left full))))
+    (subst (λ (l : List ℕ). Written l 0 list i left) (sym (take-add i (n - i) t))
+    (written-append w (written-over (take (n - i) (drop i t)) i left full))))
     other)
     one
 

@@ -49,7 +49,8 @@ loop-less c = omega arith
 loop-again : tie.Need-loop-again Inv-loop μ-loop
 loop-again c =
     let line = c .before .before .before .before in let turn = line .before .before in
-    groups-turn (turn .before .loop .inv) (turn .loop-test .taken) _ (line .group .ensures) (c .before .before .if1 .left) (c .before .with-group .ensures)
+    groups-turn (turn .before .loop .inv) (turn .loop-test .taken) _ (line .group .ensures) (c .before .before .if1 .left)
+    (c .before .with-group .ensures)
 
 returns-2 : tie.Need-returns-2 Inv-loop μ-loop
 returns-2 c = groups-read (c .before .loop .inv) (c .loop-test .left)

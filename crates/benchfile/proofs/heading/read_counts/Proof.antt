@@ -1,7 +1,8 @@
 -- The two counts are read one after the other.
 use borrow.Author.Needs.{needs}
 use native.Mathlib.Omega.{arith}
-use Rattle.benchfile.proofs.HeadingLines.{counts-refused, first-bad, first-inside, first-most, second-bad, second-inside, second-most, counts-read}
+use Rattle.benchfile.proofs.HeadingLines.{counts-refused, first-bad, first-inside, first-most, second-bad, second-inside}
+use Rattle.benchfile.proofs.HeadingLines.{second-most, counts-read}
 use Rattle.benchfile.proofs.heading.read_counts.Statement.{statement}
 use Rattle.benchfile.proofs.heading.read_counts.Tie as tie
 
@@ -32,13 +33,18 @@ no-counts-requires-2 c κs = search needs
 returns-2 : tie.Need-returns-2
 returns-2 c =
     let second = c .before .before .before in let turn = second .before .before in
-    counts-refused (second-bad _ _ (turn .before .before .units .ensures) (turn .if1 .left) _ (second .groups .ensures) (c .before .if2 .taken))
+    counts-refused (second-bad _ _ (turn .before .before .units .ensures) (turn .if1 .left) _ (second .groups .ensures)
+    (c .before .if2 .taken))
     (c .no-counts2 .ensures)
 
 add-t7 : tie.Need-add-t7
 add-t7 c =
     let second = c .before .before .before in let turn = second .before .before in
-    omega (arith, second-inside _ _ (turn .before .before .units .ensures) (turn .if1 .left) _ (second .groups .ensures) (c .before .if2 .left))
+    omega (
+      arith,
+      second-inside _ _ (turn .before .before .units .ensures) (turn .if1 .left) _ (second .groups .ensures)
+          (c .before .if2 .left),
+    )
 
 cast-t10 : tie.Need-cast-t10
 cast-t10 c =
@@ -48,12 +54,17 @@ cast-t10 c =
 cast-t11 : tie.Need-cast-t11
 cast-t11 c =
     let second = c .before .before .before .before .before in let turn = second .before .before in
-    omega (arith, second-most _ _ (turn .before .before .units .ensures) (turn .if1 .left) _ (second .groups .ensures) (c .before .before .before .if2 .left))
+    omega (
+      arith,
+      second-most _ _ (turn .before .before .units .ensures) (turn .if1 .left) _ (second .groups .ensures)
+          (c .before .before .before .if2 .left),
+    )
 
 returns-3 : tie.Need-returns-3
 returns-3 c =
     let second = c .before .before .before .before .before in let turn = second .before .before in
-    counts-read _ _ (turn .before .before .units .ensures) (turn .if1 .left) _ (second .groups .ensures) (c .before .before .before .if2 .left)
+    counts-read _ _ (turn .before .before .units .ensures) (turn .if1 .left) _ (second .groups .ensures)
+    (c .before .before .before .if2 .left)
 
 pub read-counts-spec : {M : Type 1} → statement M
 read-counts-spec =

@@ -36,7 +36,8 @@ returns-2 : tie.Need-returns-2
 returns-2 c =
     let found = c .before .before .before .before in let first = found .before .before in
     heading-refused
-    (groups-bad (first .before .before .read-counts .ensures) (first .if1 .left) (found .group-lines .ensures) (c .before .before .if2 .taken))
+    (groups-bad (first .before .before .read-counts .ensures) (first .if1 .left) (found .group-lines .ensures)
+    (c .before .before .if2 .taken))
     (c .no-heading2 .ensures)
 
 add-at : tie.Need-add-at
@@ -65,9 +66,11 @@ no-heading-requires-3 c κs = search needs
 
 returns-3 : tie.Need-returns-3
 returns-3 c =
-    let drawn = c .before .before .before .before in let found = drawn .before .before .before .before .before in let first = found .before .before in
+    let drawn = c .before .before .before .before in let found = drawn .before .before .before .before .before in
+    let first = found .before .before in
     heading-refused
-    (drawing-bad (first .before .before .read-counts .ensures) (first .if1 .left) (found .group-lines .ensures) (drawn .before .before .before .if2 .left)
+    (drawing-bad (first .before .before .read-counts .ensures) (first .if1 .left) (found .group-lines .ensures)
+    (drawn .before .before .before .if2 .left)
     (drawn .parents .ensures) (c .before .before .if3 .taken)) (c .no-heading3 .ensures)
 
 cast-t11 : tie.Need-cast-t11
@@ -90,7 +93,8 @@ returns-4 : tie.Need-returns-4
 returns-4 c =
     let drawn = c .before .before .before .before .before .before in
     let found = drawn .before .before .before .before .before in let first = found .before .before in
-    heading-read (first .before .before .read-counts .ensures) (first .if1 .left) (found .group-lines .ensures) (drawn .before .before .before .if2 .left)
+    heading-read (first .before .before .read-counts .ensures) (first .if1 .left) (found .group-lines .ensures)
+    (drawn .before .before .before .if2 .left)
     (drawn .parents .ensures) (c .before .before .before .before .if3 .left)
 
 pub read-heading-spec : {M : Type 1} → statement M

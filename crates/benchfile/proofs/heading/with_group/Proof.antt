@@ -17,7 +17,8 @@ returns : tie.Need-returns
 returns c = search needs
 
 returns-2 : tie.Need-returns-2
-returns-2 c = let a = c .before .args in let l : length (a .sets) ≡ 24 = search needs in sym (set-out (a .sets) (a .at) (a .s) (omega arith))
+returns-2 c = let a = c .before .args in let l : length (a .sets) ≡ 24 = search needs in
+    sym (set-out (a .sets) (a .at) (a .s) (omega arith))
 
 pub with-group-spec : {M : Type 1} → statement M
 with-group-spec = tie.close (tie.spec mul-next array-write-next returns returns-2)

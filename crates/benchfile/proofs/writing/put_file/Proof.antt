@@ -49,7 +49,8 @@ returns c =
     let units = count .before .before .before .before .before in
     let counted = units .before .before .before .before in
     let args = counted .before .before .before .before .before .args in
-    written-file (fileOf (args .content) (args .list .now)) (units .put-count .ensures) (rw (counted .counted .ensures) at (count .put-count2 .ensures))
+    written-file (fileOf (args .content) (args .list .now)) (units .put-count .ensures)
+    (rw (counted .counted .ensures) at (count .put-count2 .ensures))
     (groups .put-groups .ensures) (parents .put-parents .ensures) (events .put-events .ensures)
 
 pub put-file-spec : {M : Type 1} → statement M

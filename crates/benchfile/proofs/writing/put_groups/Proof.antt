@@ -15,7 +15,8 @@ use Rattle.benchfile.proofs.writing.put_groups.Statement.{statement}
 use Rattle.benchfile.proofs.writing.put_groups.Tie as tie
 
 abbrev Inv-loop : tie.InvT-loop
-Inv-loop out₀ at count groups next₀ i₀ out next i = (i ≤ count) × (i ≤ 24) × Written (ended (map groupLine (take i groups))) at out₀ next out
+Inv-loop out₀ at count groups next₀ i₀ out next i = (i ≤ count) × (i ≤ 24)
+    × Written (ended (map groupLine (take i groups))) at out₀ next out
 
 abbrev μ-loop : tie.MeasureT-loop
 μ-loop out₀ at count groups next₀ i₀ out next i = count - i

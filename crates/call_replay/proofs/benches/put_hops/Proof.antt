@@ -1,13 +1,14 @@
 -- `benches::put_hops` meets its contract: a walk of its MIR, by hand. A turn of the loop lends the hops on to `read`, and the list to
 -- `put_hop`; the loop keeps that the numbers of the records before its place are written.
-use Rattle.hand_proofs.proofs.Prelude.{refl, subst, [], _∷_, List, WellFounded, InvImage·wf, ℕ, _+_, _-_, _<_, _≤_, _^_, arith, ltb, ltb→lt}
-use Rattle.hand_proofs.proofs.Prelude.{nltb→le, length, Nat·lt-wfRel, URA, w64, WT, vbool, vint, emp, Heap, Env, Tables, afterTurn, Atoms}
-use Rattle.hand_proofs.proofs.Prelude.{fmOf, factI, givenOf, tablesOf, Given, Item, Sq, runs, atRet, anyQ, ‵, _$_, !, move, look, init}
-use Rattle.hand_proofs.proofs.Prelude.{store, forget, lit, of-opd, no-more, bin, first, blocks, exec, again, loops, returns, u16, Triple}
-use Rattle.hand_proofs.proofs.Prelude.{cited, Loan, slice, Holds, Views, Handed, Fit, contractOf, calls, contract-related, calls-related}
-use Rattle.hand_proofs.proofs.Prelude.{Rooms, suited, RelationalDuty, Goes-related, starts-related, duty-related, Done-related, concludes}
-use Rattle.hand_proofs.proofs.Prelude.{own-tables, proved-own-related, var, ptr-of, len-of, slice-of, _&_, sets, sets-last, into, Holding}
-use Rattle.hand_proofs.proofs.Prelude.{empty, holds, envAt, stack, Blocks, leaves, while-test, Turned}
+use Rattle.hand_proofs.proofs.Prelude.{refl, subst, [], _∷_, List, WellFounded, InvImage·wf, ℕ, _+_, _-_, _<_, _≤_, _^_, arith, ltb}
+use Rattle.hand_proofs.proofs.Prelude.{ltb→lt, nltb→le, length, Nat·lt-wfRel, URA, w64, WT, vbool, vint, emp, Heap, Env, Tables}
+use Rattle.hand_proofs.proofs.Prelude.{afterTurn, Atoms, fmOf, factI, givenOf, tablesOf, Given, Item, Sq, runs, atRet, anyQ, ‵, _$_, ! }
+use Rattle.hand_proofs.proofs.Prelude.{move, look, init, store, forget, lit, of-opd, no-more, bin, first, blocks, exec, again, loops}
+use Rattle.hand_proofs.proofs.Prelude.{returns, u16, Triple, cited, Loan, slice, Holds, Views, Handed, Fit, contractOf, calls}
+use Rattle.hand_proofs.proofs.Prelude.{contract-related, calls-related, Rooms, suited, RelationalDuty, Goes-related, starts-related}
+use Rattle.hand_proofs.proofs.Prelude.{duty-related, Done-related, concludes, own-tables, proved-own-related, var, ptr-of, len-of}
+use Rattle.hand_proofs.proofs.Prelude.{slice-of, _&_, sets, sets-last, into, Holding, empty, holds, envAt, stack, Blocks, leaves}
+use Rattle.hand_proofs.proofs.Prelude.{while-test, Turned}
 use Prim.Native.Nat.{zero-le}
 use mathlib.Core.List.{_++_}
 use lib.ListN.{take}
@@ -61,7 +62,8 @@ module _ {M : Type 1} (𝓤 : URA M) (H : Heap 𝓤) (A : Atoms 𝓤) (W : Given
 
         -- what the locals hold where a turn begins or the function ends: the result, `at`, `i`, the length and the test
         abbrev vs : Holding → Upto → Holding → Holding → List Holding
-        vs r k len test = r ∷ holds (slice L) ∷ holds (slice O) ∷ holds (vint w64 (k .at)) ∷ holds (vint w64 (k .i)) ∷ empty ∷ len ∷ test ∷
+        vs r k len test = r ∷ holds (slice L) ∷ holds (slice O) ∷ holds (vint w64 (k .at)) ∷ holds (vint w64 (k .i)) ∷
+            empty ∷ len ∷ test ∷
             empty ∷ empty ∷ []
 
         abbrev lists : Upto → List (Item 𝓤)
@@ -71,7 +73,8 @@ module _ {M : Type 1} (𝓤 : URA M) (H : Heap 𝓤) (A : Atoms 𝓤) (W : Given
         abbrev At : Upto → List (Item 𝓤)
         At k = lists k ++ stack locals bs (vs empty k empty empty) []
 
-        turns : (k : Upto) → Sq W (At k) (runs (𝓣 .C) (𝓣 .Λ) En turn-1 (anyQ (Turned 𝓤 H A 𝓣 En t-4 (Done-related self h) Nearer At k)))
+        turns : (k : Upto) → Sq W (At k) (runs (𝓣 .C) (𝓣 .Λ) En turn-1
+            (anyQ (Turned 𝓤 H A 𝓣 En t-4 (Done-related self h) Nearer At k)))
         unfolding afterTurn
         turns k =
             let fm = fmOf 𝓤 H (W .laws) 𝓣 in let i : ℕ = k .i in
@@ -128,9 +131,11 @@ pub put-hops-spec : {M : Type 1} → stated.statement M
 unfolding code.routine tablesOf
 put-hops-spec 𝓤 H 𝓜 𝓖 𝓡 =
     let A = 𝓖 .A in
-    proved-own-related 𝓤 H 𝓜 𝓖 𝓡 code.env (put-hops-callee 𝓤 H A) tt (λ κs qs. refl) (λ κs qs a g. factI 𝓤 (Unit {0}) _ tt)
+    proved-own-related 𝓤 H 𝓜 𝓖 𝓡 code.env (put-hops-callee 𝓤 H A) tt (λ κs qs. refl)
+    (λ κs qs a g. factI 𝓤 (Unit {0}) _ tt)
     (λ κs qs a g r ws _ said. factI 𝓤 _ (emp 𝓤) said)
     #put-hops code.function (code.unfolded 𝓤 H 𝓜 𝓡) (λ h fit rooms _.
-    walk 𝓤 H A (givenOf 𝓤 H 𝓜 𝓖) (h .0 .0) (h .0 .1) (h .1 .0 .0) (h .1 .0 .1) fit rooms (own-tables 𝓤 H 𝓜 𝓖 𝓡 code.env)
+    walk 𝓤 H A (givenOf 𝓤 H 𝓜 𝓖) (h .0 .0) (h .0 .1) (h .1 .0 .0) (h .1 .0 .1) fit rooms
+    (own-tables 𝓤 H 𝓜 𝓖 𝓡 code.env)
     (cited 𝓤 H _ 𝓜 𝓡 code.env read-def.name _ code.calls-hops·read (read-thm.met 𝓤 H 𝓜 𝓖 𝓡))
     (cited 𝓤 H _ 𝓜 𝓡 code.env put-hop-def.name _ code.calls-call-replay·writing·put-hop (put-hop-thm.met 𝓤 H 𝓜 𝓖 𝓡)))

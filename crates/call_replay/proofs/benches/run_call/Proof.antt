@@ -1,11 +1,11 @@
 -- `benches::run_call` meets its contract: a walk of its MIR, by hand. `Bench::send` and `Bench::rest` are lent the first of the hops,
 -- `Bench::arrive` the first of the hops and of the book; what they promise is one of the three ways to run a call.
-use Rattle.hand_proofs.proofs.Prelude.{refl, ap, subst, [], _∷_, List, ℕ, _<_, _≤_, _^_, length, URA, w64, vint, emp, Heap, Tables, Atoms}
-use Rattle.hand_proofs.proofs.Prelude.{fmOf, factI, givenOf, tablesOf, Given, ‵, _$_, !, move, rewrite, look, init, store, of-opd, agg}
-use Rattle.hand_proofs.proofs.Prelude.{no-more, returns, returns-within, u16, Triple, cited, stored, Loan, Holds, Handed, Fit, contractOf}
-use Rattle.hand_proofs.proofs.Prelude.{calls, contract-related, calls-related, Rooms, suited, RelationalDuty, Goes-related, starts-related}
-use Rattle.hand_proofs.proofs.Prelude.{duty-related, Done-related, concludes, own-tables, proved-own-related, var, ptr-of, len-of, _&_}
-use Rattle.hand_proofs.proofs.Prelude.{equals, sets, into, empty, holds, leaves, if-then, front-loan, lends-front, front-back}
+use Rattle.hand_proofs.proofs.Prelude.{refl, ap, subst, [], _∷_, List, ℕ, _<_, _≤_, _^_, length, URA, w64, vint, emp, Heap, Tables}
+use Rattle.hand_proofs.proofs.Prelude.{Atoms, fmOf, factI, givenOf, tablesOf, Given, ‵, _$_, !, move, rewrite, look, init, store, of-opd}
+use Rattle.hand_proofs.proofs.Prelude.{agg, no-more, returns, returns-within, u16, Triple, cited, stored, Loan, Holds, Handed, Fit}
+use Rattle.hand_proofs.proofs.Prelude.{contractOf, calls, contract-related, calls-related, Rooms, suited, RelationalDuty, Goes-related}
+use Rattle.hand_proofs.proofs.Prelude.{starts-related, duty-related, Done-related, concludes, own-tables, proved-own-related, var, ptr-of}
+use Rattle.hand_proofs.proofs.Prelude.{len-of, _&_, equals, sets, into, empty, holds, leaves, if-then, front-loan, lends-front, front-back}
 use native.Mathlib.Nat.{min-le-right}
 use mathlib.Core.List.{_++_}
 use lib.ListN.{take, drop, take-append-drop}
@@ -67,7 +67,8 @@ record Known {M : Type 1} (𝓤 : URA M) (H : Heap 𝓤) (A : Atoms 𝓤) (𝓣 
   of-after-arrive : Triple 𝓤 (𝓣 .C after-arrive-def.name) (contractOf (after-arrive-callee 𝓤 H A))
   of-after-rest : Triple 𝓤 (𝓣 .C after-rest-def.name) (contractOf (after-rest-callee 𝓤 H A))
 
-module _ {M : Type 1} (𝓤 : URA M) (H : Heap 𝓤) (A : Atoms 𝓤) (W : Given 𝓤 H A) (𝓣 : Tables 𝓤 H) (known : Known 𝓤 H A 𝓣) where
+module _ {M : Type 1} (𝓤 : URA M) (H : Heap 𝓤) (A : Atoms 𝓤) (W : Given 𝓤 H A) (𝓣 : Tables 𝓤 H)
+    (known : Known 𝓤 H A 𝓣) where
   abbrev self : RelationalDuty 𝓤 H A
   self = duty-related (run-call-callee 𝓤 H A)
 
@@ -81,7 +82,8 @@ module _ {M : Type 1} (𝓤 : URA M) (H : Heap 𝓤) (A : Atoms 𝓤) (W : Given
       let book-fits : length book < 2 ^ 64 = subst (λ (k : ℕ). k < 2 ^ 64) (rooms .1 .0 .1) (rooms .1 .0 .0 .0) in
       -- how many it is lent
       let n : ℕ = hopsLent q hs in let m : ℕ = bookLent q book in
-      let few : n ≤ length hs = min-le-right (q .hops) (length hs) in let few′ : m ≤ length book = min-le-right (q .book) (length book) in
+      let few : n ≤ length hs = min-le-right (q .hops) (length hs) in
+      let few′ : m ≤ length book = min-le-right (q .book) (length book) in
       starts-related W self 𝓣 code.function h (suited W (self .passes) h fit rooms) (λ bs.
       -- [hops; book; the locals, the last first]
       sets ! (equals (ap (vint w64) (rooms .0 .1)) (of-opd ! (len-of ! 42 refl refl))) (init ! 22 refl (tt, record { fits = hops-fit })) $
@@ -113,7 +115,8 @@ module _ {M : Type 1} (𝓤 : URA M) (H : Heap 𝓤) (A : Atoms 𝓤) (W : Given
       into ! (init ! 48 refl (stored W by-done (afterSend r) d-is .0)) $ returns-within ! (Done-related self h) refl (look ! 48 refl) $
       leaves ! (‵ (Holds R L (es .0 ++ drop n hs)) ∷ ‵ (Holds u16 N book) ∷ []) locals bs
       (holds _ ∷ holds _ ∷ holds _ ∷ holds _ ∷ holds _ ∷ holds _ ∷ holds _ ∷ holds _
-      ∷ holds _ ∷ holds _ ∷ holds _ ∷ empty ∷ empty ∷ holds _ ∷ holds _ ∷ holds _ ∷ holds _ ∷ empty ∷ empty ∷ empty ∷ empty ∷ empty ∷
+      ∷ holds _ ∷ holds _ ∷ holds _ ∷ empty ∷ empty ∷ holds _ ∷ holds _ ∷ holds _ ∷ holds _ ∷ empty ∷ empty ∷
+      empty ∷ empty ∷ empty ∷
       empty ∷ empty ∷ []) tt $
       concludes ! self h (afterSend r) (es .0 ++ drop n hs, (book, tt)) d-is (sent r (came-true (isSend q) sends) promise))))))))
       (λ other.
@@ -126,7 +129,7 @@ module _ {M : Type 1} (𝓤 : URA M) (H : Heap 𝓤) (A : Atoms 𝓤) (W : Given
       sets ! (ptr-of ! 40 refl refl) (init ! 8 refl (tt, tt)) $
       sets ! (agg ! (var ! 8 refl & var ! 36 refl & no-more !)) (init ! 6 refl (tt, (tt, (record { fits = lent′ .1 }, tt)))) $
       lends-front ! tt R L n hs few (λ α γ. move ! (2 ∷ []) $ lends-front ! tt u16 N m book few′ (λ β δ. move ! (2 ∷ 0 ∷ []) $
-      -- [the first hops; the first of the book; the rest of it; the rest of the hops; the locals]
+      -- [the first hops; the first of the book; its rest; the rest of the hops; the locals]
       calls-related ! fm (arrive-callee 𝓤 H A) (known .of-arrive)
       (b, (q .a, ((front-loan L n α γ, take n hs), ((front-loan N m β δ, take m book), tt))))
       (b-is, (a-is, tt)) tt refl (var ! 48 refl & var ! 36 refl & var ! 12 refl & var ! 8 refl & no-more !) (λ r es promise r-is.
@@ -136,7 +139,8 @@ module _ {M : Type 1} (𝓤 : URA M) (H : Heap 𝓤) (A : Atoms 𝓤) (W : Given
       into ! (init ! 48 refl (stored W by-done (afterArrive r) d-is .0)) $ returns-within ! (Done-related self h) refl (look ! 48 refl) $
       leaves ! (‵ (Holds R L (es .0 ++ drop n hs)) ∷ ‵ (Holds u16 N (es .1 .0 ++ drop m book)) ∷ []) locals bs
       (holds _ ∷ holds _ ∷ holds _ ∷ holds _ ∷ holds _ ∷ holds _ ∷ holds _ ∷ holds _
-      ∷ empty ∷ empty ∷ empty ∷ holds _ ∷ empty ∷ holds _ ∷ holds _ ∷ empty ∷ empty ∷ holds _ ∷ holds _ ∷ holds _ ∷ holds _ ∷ holds _ ∷
+      ∷ empty ∷ empty ∷ empty ∷ holds _ ∷ empty ∷ holds _ ∷ holds _ ∷ empty ∷ empty ∷ holds _ ∷ holds _ ∷
+      holds _ ∷ holds _ ∷ holds _ ∷
       empty ∷ empty ∷ []) tt $
       concludes ! self h (afterArrive r) (es .0 ++ drop n hs, (es .1 .0 ++ drop m book, tt)) d-is
       (arrived r (came-false (isSend q) other) (came-true (isArrive q) arrives) promise))))))))
@@ -146,13 +150,15 @@ module _ {M : Type 1} (𝓤 : URA M) (H : Heap 𝓤) (A : Atoms 𝓤) (W : Given
       lends-front ! tt R L n hs few (λ α γ.
       calls-related ! fm (rest-shown-callee 𝓤 H A) (known .of-rest) (b, ((front-loan L n α γ, take n hs), tt)) (b-is, tt) tt refl
       (var ! 47 refl & var ! 3 refl & no-more !) (λ r _ promise r-is. into ! (init ! 25 refl (stored W by-rest-reply r r-is .0)) $
-      front-back ! tt R L n hs few α γ (take n hs) (λ _. rewrite ! 0 (λ (zs : List Hop). ‵ (Holds R L zs)) (take-append-drop n hs) refl $
+      front-back ! tt R L n hs few α γ (take n hs) (λ _. rewrite ! 0 (λ (zs : List Hop). ‵ (Holds R L zs))
+      (take-append-drop n hs) refl $
       calls ! fm (after-rest-callee 𝓤 H A) (known .of-after-rest) (b, (r, tt)) (b-is, (r-is, tt)) tt refl
       (var ! 46 refl & var ! 24 refl & no-more !) (λ d-is.
       into ! (init ! 48 refl (stored W by-done (afterRest b r) d-is .0)) $ returns ! (look ! 48 refl) $
       leaves ! (‵ (Holds R L hs) ∷ ‵ (Holds u16 N book) ∷ []) locals bs
       (holds _ ∷ holds _ ∷ holds _ ∷ holds _ ∷ holds _ ∷ holds _ ∷ holds _ ∷ holds _
-      ∷ empty ∷ empty ∷ empty ∷ empty ∷ holds _ ∷ holds _ ∷ holds _ ∷ empty ∷ empty ∷ holds _ ∷ empty ∷ empty ∷ empty ∷ empty ∷ holds _ ∷
+      ∷ empty ∷ empty ∷ empty ∷ empty ∷ holds _ ∷ holds _ ∷ holds _ ∷ empty ∷ empty ∷ holds _ ∷ empty ∷ empty ∷
+      empty ∷ empty ∷ holds _ ∷
       holds _ ∷ []) tt $
       concludes ! self h (afterRest b r) (hs, (book, tt)) d-is
       (looked (came-false (isSend q) other) (came-false (isArrive q) looks) promise)))))))))))))
@@ -161,18 +167,28 @@ pub run-call-spec : {M : Type 1} → stated.statement M
 unfolding code.routine tablesOf
 run-call-spec 𝓤 H 𝓜 𝓖 𝓡 =
     let A = 𝓖 .A in
-    proved-own-related 𝓤 H 𝓜 𝓖 𝓡 code.env (run-call-callee 𝓤 H A) tt (λ κs qs. refl) (λ κs qs a g. factI 𝓤 (Unit {0}) _ tt)
+    proved-own-related 𝓤 H 𝓜 𝓖 𝓡 code.env (run-call-callee 𝓤 H A) tt (λ κs qs. refl)
+    (λ κs qs a g. factI 𝓤 (Unit {0}) _ tt)
     (λ κs qs a g r ws _ said. factI 𝓤 _ (emp 𝓤) said)
-    #run-call code.function (code.unfolded 𝓤 H 𝓜 𝓡) (λ h fit rooms _. walk 𝓤 H A (givenOf 𝓤 H 𝓜 𝓖) (own-tables 𝓤 H 𝓜 𝓖 𝓡 code.env) record {
-      of-hops-lent = cited 𝓤 H _ 𝓜 𝓡 code.env hops-lent-def.name _ code.calls-call-replay·requests·hops-lent (hops-lent-thm.met 𝓤 H 𝓜 𝓖 𝓡);
-      of-book-lent = cited 𝓤 H _ 𝓜 𝓡 code.env book-lent-def.name _ code.calls-call-replay·requests·book-lent (book-lent-thm.met 𝓤 H 𝓜 𝓖 𝓡);
-      of-first = cited 𝓤 H _ 𝓜 𝓡 code.env first-def.name _ code.calls-call-replay·requests·first (first-thm.met 𝓤 H 𝓜 𝓖 𝓡);
-      of-second = cited 𝓤 H _ 𝓜 𝓡 code.env second-def.name _ code.calls-call-replay·requests·second (second-thm.met 𝓤 H 𝓜 𝓖 𝓡);
-      of-third = cited 𝓤 H _ 𝓜 𝓡 code.env third-def.name _ code.calls-call-replay·requests·third (third-thm.met 𝓤 H 𝓜 𝓖 𝓡);
-      of-is-send = cited 𝓤 H _ 𝓜 𝓡 code.env is-send-def.name _ code.calls-call-replay·requests·is-send (is-send-thm.met 𝓤 H 𝓜 𝓖 𝓡);
-      of-is-arrive = cited 𝓤 H _ 𝓜 𝓡 code.env is-arrive-def.name _ code.calls-call-replay·requests·is-arrive (is-arrive-thm.met 𝓤 H 𝓜 𝓖 𝓡);
+    #run-call code.function (code.unfolded 𝓤 H 𝓜 𝓡) (λ h fit rooms _. walk 𝓤 H A (givenOf 𝓤 H 𝓜 𝓖)
+    (own-tables 𝓤 H 𝓜 𝓖 𝓡 code.env) record {
+      of-hops-lent = cited 𝓤 H _ 𝓜 𝓡 code.env hops-lent-def.name _ code.calls-call-replay·requests·hops-lent
+          (hops-lent-thm.met 𝓤 H 𝓜 𝓖 𝓡);
+      of-book-lent = cited 𝓤 H _ 𝓜 𝓡 code.env book-lent-def.name _ code.calls-call-replay·requests·book-lent
+          (book-lent-thm.met 𝓤 H 𝓜 𝓖 𝓡);
+      of-first = cited 𝓤 H _ 𝓜 𝓡 code.env first-def.name _ code.calls-call-replay·requests·first
+          (first-thm.met 𝓤 H 𝓜 𝓖 𝓡);
+      of-second = cited 𝓤 H _ 𝓜 𝓡 code.env second-def.name _ code.calls-call-replay·requests·second
+          (second-thm.met 𝓤 H 𝓜 𝓖 𝓡);
+      of-third = cited 𝓤 H _ 𝓜 𝓡 code.env third-def.name _ code.calls-call-replay·requests·third
+          (third-thm.met 𝓤 H 𝓜 𝓖 𝓡);
+      of-is-send = cited 𝓤 H _ 𝓜 𝓡 code.env is-send-def.name _ code.calls-call-replay·requests·is-send
+          (is-send-thm.met 𝓤 H 𝓜 𝓖 𝓡);
+      of-is-arrive = cited 𝓤 H _ 𝓜 𝓡 code.env is-arrive-def.name _ code.calls-call-replay·requests·is-arrive
+          (is-arrive-thm.met 𝓤 H 𝓜 𝓖 𝓡);
       of-send = cited 𝓤 H _ 𝓜 𝓡 code.env send-def.name _ code.calls-bench·Bench·send (send-thm.met 𝓤 H 𝓜 𝓖 𝓡);
-      of-arrive = cited 𝓤 H _ 𝓜 𝓡 code.env arrive-def.name _ code.calls-bench·Bench·arrive (arrive-thm.met 𝓤 H 𝓜 𝓖 𝓡);
+      of-arrive = cited 𝓤 H _ 𝓜 𝓡 code.env arrive-def.name _ code.calls-bench·Bench·arrive
+          (arrive-thm.met 𝓤 H 𝓜 𝓖 𝓡);
       of-rest = cited 𝓤 H _ 𝓜 𝓡 code.env rest-def.name _ code.calls-bench·Bench·rest (rest-thm.met 𝓤 H 𝓜 𝓖 𝓡);
       of-after-send = cited 𝓤 H _ 𝓜 𝓡 code.env after-send-def.name _ code.calls-call-replay·replies·after-send
           (after-send-thm.met 𝓤 H 𝓜 𝓖 𝓡);

@@ -1,14 +1,14 @@
 -- `benches::run_calls` meets its contract: a walk of its MIR, by hand. A turn of the loop lends the list on to `request_at`, the hops and
 -- the book to `run_call`, and the replies to `put_reply`, which is shown the book; the loop keeps that every run of the calls from where it
 -- is completes one from the start.
-use Rattle.hand_proofs.proofs.Prelude.{_≡_, refl, [], _∷_, List, WellFounded, InvImage·wf, ℕ, _-_, _<_, arith, Nat·lt-wfRel, URA, w64, WT}
-use Rattle.hand_proofs.proofs.Prelude.{vint, vbool, emp, Heap, Env, Tables, afterTurn, Atoms, fmOf, factI, givenOf, tablesOf, Given, Item}
-use Rattle.hand_proofs.proofs.Prelude.{Sq, runs, atRet, anyQ, ‵, _$_, !, move, look, init, store, forget, of-opd, no-more, first, blocks}
-use Rattle.hand_proofs.proofs.Prelude.{exec, again, loops, returns, Is, u16, Triple, cited, stored, Loan, slice, Holds, Views, Handed, Fit}
-use Rattle.hand_proofs.proofs.Prelude.{contractOf, calls, calls-last, contract-related, calls-related, Rooms, suited, RelationalDuty}
-use Rattle.hand_proofs.proofs.Prelude.{Goes-related, starts-related, duty-related, Done-related, concludes, own-tables, proved-own-related}
-use Rattle.hand_proofs.proofs.Prelude.{var, ptr-of, slice-of, _&_, sets, into, into-last, Holding, empty, holds, envAt, stack, Blocks}
-use Rattle.hand_proofs.proofs.Prelude.{leaves, while-test, Turned}
+use Rattle.hand_proofs.proofs.Prelude.{_≡_, refl, [], _∷_, List, WellFounded, InvImage·wf, ℕ, _-_, _<_, arith, Nat·lt-wfRel, URA}
+use Rattle.hand_proofs.proofs.Prelude.{w64, WT, vint, vbool, emp, Heap, Env, Tables, afterTurn, Atoms, fmOf, factI, givenOf, tablesOf}
+use Rattle.hand_proofs.proofs.Prelude.{Given, Item, Sq, runs, atRet, anyQ, ‵, _$_, !, move, look, init, store, forget, of-opd, no-more}
+use Rattle.hand_proofs.proofs.Prelude.{first, blocks, exec, again, loops, returns, Is, u16, Triple, cited, stored, Loan, slice, Holds}
+use Rattle.hand_proofs.proofs.Prelude.{Views, Handed, Fit, contractOf, calls, calls-last, contract-related, calls-related, Rooms, suited}
+use Rattle.hand_proofs.proofs.Prelude.{RelationalDuty, Goes-related, starts-related, duty-related, Done-related, concludes, own-tables}
+use Rattle.hand_proofs.proofs.Prelude.{proved-own-related, var, ptr-of, slice-of, _&_, sets, into, into-last, Holding, empty, holds, envAt}
+use Rattle.hand_proofs.proofs.Prelude.{stack, Blocks, leaves, while-test, Turned}
 use mathlib.Core.Bool.{true, not}
 use mathlib.Core.Path.{ap}
 use mathlib.Core.Logic.{by-cases}
@@ -71,7 +71,8 @@ module _ {M : Type 1} (𝓤 : URA M) (H : Heap 𝓤) (A : Atoms 𝓤) (W : Given
   self = duty-related (run-calls-callee 𝓤 H A)
 
   -- lent: the list at I, the hops at L, the book at N, the replies at O
-  module _ (start : Bench) (I : Loan) (list : List ℕ) (L : Loan) (hs₀ : List Hop) (N : Loan) (book₀ : List ℕ) (O : Loan) (out₀ : List ℕ)
+  module _ (start : Bench) (I : Loan) (list : List ℕ) (L : Loan) (hs₀ : List Hop) (N : Loan) (book₀ : List ℕ)
+      (O : Loan) (out₀ : List ℕ)
     where
       abbrev h : Handed (self .passes)
       h = (start, ((I, list), ((L, hs₀), ((N, book₀), ((O, out₀), tt)))))
@@ -85,7 +86,8 @@ module _ {M : Type 1} (𝓤 : URA M) (H : Heap 𝓤) (A : Atoms 𝓤) (W : Given
         hs : List Hop
         book : List ℕ
         out : List ℕ
-        completes : {b′ : Bench} {p′ : Progress} {hs′ : List Hop} {book′ out′ : List ℕ} → CallsFrom list b p hs book out b′ p′ hs′ book′
+        completes : {b′ : Bench} {p′ : Progress} {hs′ : List Hop} {book′ out′ : List ℕ}
+            → CallsFrom list b p hs book out b′ p′ hs′ book′
             out′
             → CallsFrom list start (begunWith list) hs₀ book₀ out₀ b′ p′ hs′ book′ out′
 
@@ -102,9 +104,11 @@ module _ {M : Type 1} (𝓤 : URA M) (H : Heap 𝓤) (A : Atoms 𝓤) (W : Given
 
           -- what the locals hold where a turn begins or the function ends: the result, the bench, the progress, and the test
           abbrev vs : Holding → Going → Holding → List Holding
-          vs r i test = r ∷ holds (by-bench .word start) ∷ holds (slice I) ∷ holds (slice L) ∷ holds (slice N) ∷ holds (slice O) ∷ holds
+          vs r i test = r ∷ holds (by-bench .word start) ∷ holds (slice I) ∷ holds (slice L) ∷ holds (slice N) ∷
+              holds (slice O) ∷ holds
               (by-bench .word (i .b))
-              ∷ holds (by-progress .word (i .p)) ∷ empty ∷ empty ∷ test ∷ empty ∷ empty ∷ empty ∷ empty ∷ empty ∷ empty ∷ empty ∷ empty ∷ []
+              ∷ holds (by-progress .word (i .p)) ∷ empty ∷ empty ∷ test ∷ empty ∷ empty ∷ empty ∷ empty ∷ empty ∷
+              empty ∷ empty ∷ empty ∷ []
 
           abbrev lists : Going → List (Item 𝓤)
           lists i = ‵ (Views u16 I list) ∷ ‵ (Holds R L (i .hs)) ∷ ‵ (Holds u16 N (i .book)) ∷ ‵ (Holds u16 O (i .out)) ∷ []
@@ -113,10 +117,12 @@ module _ {M : Type 1} (𝓤 : URA M) (H : Heap 𝓤) (A : Atoms 𝓤) (W : Given
           abbrev At : Going → List (Item 𝓤)
           At i = lists i ++ stack locals bs (vs empty i empty) []
 
-          turns : (i : Going) → Sq W (At i) (runs (𝓣 .C) (𝓣 .Λ) En turn-1 (anyQ (Turned 𝓤 H A 𝓣 En t-4 (Done-related self h) Nearer At i)))
+          turns : (i : Going) → Sq W (At i) (runs (𝓣 .C) (𝓣 .Λ) En turn-1
+              (anyQ (Turned 𝓤 H A 𝓣 En t-4 (Done-related self h) Nearer At i)))
           unfolding afterTurn endedWith
           turns i =
-              let fm = fmOf 𝓤 H (W .laws) 𝓣 in let b : Bench = i .b in let p : Progress = i .p in let q : Request = requestAt p list in
+              let fm = fmOf 𝓤 H (W .laws) 𝓣 in let b : Bench = i .b in let p : Progress = i .p in
+              let q : Request = requestAt p list in
               let hops-wt : WT (vint w64 (L .count)) = record { fits = rooms .1 .0 .0 .0 } in
               let book-wt : WT (vint w64 (N .count)) = record { fits = rooms .1 .1 .0 .0 .0 } in
               let out-wt : WT (vint w64 (O .count)) = record { fits = rooms .1 .1 .1 .0 .0 .0 } in
@@ -147,7 +153,8 @@ module _ {M : Type 1} (𝓤 : URA M) (H : Heap 𝓤) (A : Atoms 𝓤) (W : Given
               !)
               (λ r left put r-is.
               into ! (store ! 26 refl (stored W by-progress r r-is .0)) $
-              calls-last ! fm (bench-of-callee 𝓤 H A) (known .of-bench-of) (d, tt) (d-is, tt) tt refl (var ! 22 refl & no-more !) (λ b-is.
+              calls-last ! fm (bench-of-callee 𝓤 H A) (known .of-bench-of) (d, tt) (d-is, tt) tt refl
+              (var ! 22 refl & no-more !) (λ b-is.
               into-last ! (store ! 28 refl (stored W by-bench (d .bench) b-is .0)) $
               -- [the book; the replies; the hops; the list; the locals]
               move ! (3 ∷ 2 ∷ 0 ∷ []) $
@@ -179,7 +186,8 @@ module _ {M : Type 1} (𝓤 : URA M) (H : Heap 𝓤) (A : Atoms 𝓤) (W : Given
         walk =
             starts-related W self 𝓣 code.function h (suited W (self .passes) h fit rooms) (λ bs.
             sets ! (of-opd ! (var ! 38 refl)) (init ! 28 refl (stored W by-bench start (fit .0) .0)) $
-            calls ! (fmOf 𝓤 H (W .laws) 𝓣) (begun-callee 𝓤 H A) (known .of-begun) ((I, list), tt) tt tt refl (var ! 36 refl & no-more !)
+            calls ! (fmOf 𝓤 H (W .laws) 𝓣) (begun-callee 𝓤 H A) (known .of-begun) ((I, list), tt) tt tt refl
+            (var ! 36 refl & no-more !)
             (λ p-is.
             into ! (init ! 26 refl (stored W by-progress (begunWith list) p-is .0)) $
             first ! $ blocks ! $ loops ! 𝓣 Nearer Nearer-wf (At bs) (turns bs)
@@ -198,17 +206,25 @@ pub run-calls-spec : {M : Type 1} → stated.statement M
 unfolding code.routine tablesOf
 run-calls-spec 𝓤 H 𝓜 𝓖 𝓡 =
     let A = 𝓖 .A in
-    proved-own-related 𝓤 H 𝓜 𝓖 𝓡 code.env (run-calls-callee 𝓤 H A) tt (λ κs qs. refl) (λ κs qs a g. factI 𝓤 (Unit {0}) _ tt)
+    proved-own-related 𝓤 H 𝓜 𝓖 𝓡 code.env (run-calls-callee 𝓤 H A) tt (λ κs qs. refl)
+    (λ κs qs a g. factI 𝓤 (Unit {0}) _ tt)
     (λ κs qs a g r ws _ said. factI 𝓤 _ (emp 𝓤) said)
     #run-calls code.function (code.unfolded 𝓤 H 𝓜 𝓡) (λ h fit rooms _.
     walk 𝓤 H A (givenOf 𝓤 H 𝓜 𝓖) (h .0) (h .1 .0 .0) (h .1 .0 .1) (h .1 .1 .0 .0) (h .1 .1 .0 .1)
-    (h .1 .1 .1 .0 .0) (h .1 .1 .1 .0 .1) (h .1 .1 .1 .1 .0 .0) (h .1 .1 .1 .1 .0 .1) fit rooms (own-tables 𝓤 H 𝓜 𝓖 𝓡 code.env) record {
-      of-begun = cited 𝓤 H _ 𝓜 𝓡 code.env begun-def.name _ code.calls-call-replay·requests·begun (begun-thm.met 𝓤 H 𝓜 𝓖 𝓡);
-      of-is-going = cited 𝓤 H _ 𝓜 𝓡 code.env is-going-def.name _ code.calls-call-replay·requests·is-going (is-going-thm.met 𝓤 H 𝓜 𝓖 𝓡);
+    (h .1 .1 .1 .0 .0) (h .1 .1 .1 .0 .1) (h .1 .1 .1 .1 .0 .0) (h .1 .1 .1 .1 .0 .1) fit rooms
+    (own-tables 𝓤 H 𝓜 𝓖 𝓡 code.env) record {
+      of-begun = cited 𝓤 H _ 𝓜 𝓡 code.env begun-def.name _ code.calls-call-replay·requests·begun
+          (begun-thm.met 𝓤 H 𝓜 𝓖 𝓡);
+      of-is-going = cited 𝓤 H _ 𝓜 𝓡 code.env is-going-def.name _ code.calls-call-replay·requests·is-going
+          (is-going-thm.met 𝓤 H 𝓜 𝓖 𝓡);
       of-request-at = cited 𝓤 H _ 𝓜 𝓡 code.env request-at-def.name _ code.calls-call-replay·requests·request-at
           (request-at-thm.met 𝓤 H 𝓜 𝓖 𝓡);
-      of-run-call = cited 𝓤 H _ 𝓜 𝓡 code.env run-call-def.name _ code.calls-call-replay·benches·run-call (run-call-thm.met 𝓤 H 𝓜 𝓖 𝓡);
-      of-put-reply = cited 𝓤 H _ 𝓜 𝓡 code.env put-reply-def.name _ code.calls-call-replay·replies·put-reply (put-reply-thm.met 𝓤 H 𝓜 𝓖 𝓡);
-      of-bench-of = cited 𝓤 H _ 𝓜 𝓡 code.env bench-of-def.name _ code.calls-call-replay·replies·bench-of (bench-of-thm.met 𝓤 H 𝓜 𝓖 𝓡);
-      of-end-of = cited 𝓤 H _ 𝓜 𝓡 code.env end-of-def.name _ code.calls-call-replay·benches·end-of (end-of-thm.met 𝓤 H 𝓜 𝓖 𝓡);
+      of-run-call = cited 𝓤 H _ 𝓜 𝓡 code.env run-call-def.name _ code.calls-call-replay·benches·run-call
+          (run-call-thm.met 𝓤 H 𝓜 𝓖 𝓡);
+      of-put-reply = cited 𝓤 H _ 𝓜 𝓡 code.env put-reply-def.name _ code.calls-call-replay·replies·put-reply
+          (put-reply-thm.met 𝓤 H 𝓜 𝓖 𝓡);
+      of-bench-of = cited 𝓤 H _ 𝓜 𝓡 code.env bench-of-def.name _ code.calls-call-replay·replies·bench-of
+          (bench-of-thm.met 𝓤 H 𝓜 𝓖 𝓡);
+      of-end-of = cited 𝓤 H _ 𝓜 𝓡 code.env end-of-def.name _ code.calls-call-replay·benches·end-of
+          (end-of-thm.met 𝓤 H 𝓜 𝓖 𝓡);
     })

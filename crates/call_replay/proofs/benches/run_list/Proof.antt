@@ -1,13 +1,13 @@
 -- `benches::run_list` meets its contract: a walk of its MIR, by hand. The local array of hops is filled with nines and lent; `Bench::fresh`
 -- gets the first of the hops and of the book, `run_calls` all of both, with the list and the replies; `put_hops` is shown the hops. What
 -- they promise makes up `ListRun`.
-use Rattle.hand_proofs.proofs.Prelude.{refl, ap, [], _∷_, List, ℕ, _<_, _≤_, _^_, arith, length, replicate, URA, w64, WT, vint, emp, Heap}
-use Rattle.hand_proofs.proofs.Prelude.{Tables, Atoms, fmOf, factI, givenOf, tablesOf, Given, ‵, _$_, !, move, look, init, store, stop, from}
-use Rattle.hand_proofs.proofs.Prelude.{addr, lit, of-opd, agg, no-more, returns, u16, Triple, cited, stored, by-array, Loan, Holds, Views}
-use Rattle.hand_proofs.proofs.Prelude.{Handed, Fit, contractOf, calls, contract-related, calls-related, Rooms, suited, RelationalDuty}
-use Rattle.hand_proofs.proofs.Prelude.{Goes-related, starts-related, duty-related, concludes, own-tables, proved-own-related, var, ptr-of}
-use Rattle.hand_proofs.proofs.Prelude.{len-of, slice-of, big-lit, _&_, equals, sets, into, full, leaves, repeated, repeats, array-loan}
-use Rattle.hand_proofs.proofs.Prelude.{lends-array, array-back, front-loan, lends-front, front-back}
+use Rattle.hand_proofs.proofs.Prelude.{refl, ap, [], _∷_, List, ℕ, _<_, _≤_, _^_, arith, length, replicate, URA, w64, WT, vint, emp}
+use Rattle.hand_proofs.proofs.Prelude.{Heap, Tables, Atoms, fmOf, factI, givenOf, tablesOf, Given, ‵, _$_, !, move, look, init, store}
+use Rattle.hand_proofs.proofs.Prelude.{stop, from, addr, lit, of-opd, agg, no-more, returns, u16, Triple, cited, stored, by-array, Loan}
+use Rattle.hand_proofs.proofs.Prelude.{Holds, Views, Handed, Fit, contractOf, calls, contract-related, calls-related, Rooms, suited}
+use Rattle.hand_proofs.proofs.Prelude.{RelationalDuty, Goes-related, starts-related, duty-related, concludes, own-tables}
+use Rattle.hand_proofs.proofs.Prelude.{proved-own-related, var, ptr-of, len-of, slice-of, big-lit, _&_, equals, sets, into, full, leaves}
+use Rattle.hand_proofs.proofs.Prelude.{repeated, repeats, array-loan, lends-array, array-back, front-loan, lends-front, front-back}
 use Prim.Native.Nat.{min}
 use mathlib.Core.List.{_++_}
 use mathlib.Core.Path.{sym, subst}
@@ -44,7 +44,8 @@ record Known {M : Type 1} (𝓤 : URA M) (H : Heap 𝓤) (A : Atoms 𝓤) (𝓣 
   of-run-calls : Triple 𝓤 (𝓣 .C run-calls-def.name) (contract-related (run-calls-callee 𝓤 H A))
   of-put-hops : Triple 𝓤 (𝓣 .C put-hops-def.name) (contract-related (put-hops-shown-callee 𝓤 H A))
 
-module _ {M : Type 1} (𝓤 : URA M) (H : Heap 𝓤) (A : Atoms 𝓤) (W : Given 𝓤 H A) (𝓣 : Tables 𝓤 H) (known : Known 𝓤 H A 𝓣) where
+module _ {M : Type 1} (𝓤 : URA M) (H : Heap 𝓤) (A : Atoms 𝓤) (W : Given 𝓤 H A) (𝓣 : Tables 𝓤 H)
+    (known : Known 𝓤 H A 𝓣) where
   abbrev self : RelationalDuty 𝓤 H A
   self = duty-related (run-list-callee 𝓤 H A)
 
@@ -76,7 +77,8 @@ module _ {M : Type 1} (𝓤 : URA M) (H : Heap 𝓤) (A : Atoms 𝓤) (W : Given
       (var ! 58 refl & big-lit ! fits & no-more !) (λ lent. into ! (init ! 44 refl (tt, record { fits = lent .1 })) $
       sets ! (equals (ap (vint w64) (rooms .1 .0 .1)) (of-opd ! (len-of ! 52 refl refl)))
       (init ! 32 refl (tt, record { fits = book-fits })) $
-      calls ! fm (least-callee 𝓤 H A) (known .of-least) (fresh-book, (length book, tt)) (fit .1 .1 .1 .1 .1 .0, ((refl, book-fits), tt)) tt
+      calls ! fm (least-callee 𝓤 H A) (known .of-least) (fresh-book, (length book, tt))
+      (fit .1 .1 .1 .1 .1 .0, ((refl, book-fits), tt)) tt
       refl
       (var ! 56 refl & var ! 32 refl & no-more !) (λ lent′. into ! (init ! 42 refl (tt, record { fits = lent′ .1 })) $
       sets ! (addr ! (from ! (stop !))) (init ! 30 refl (tt, tt)) $
@@ -85,8 +87,9 @@ module _ {M : Type 1} (𝓤 : URA M) (H : Heap 𝓤) (A : Atoms 𝓤) (W : Given
       sets ! (agg ! (var ! 26 refl & var ! 42 refl & no-more !)) (init ! 24 refl (tt, (tt, (record { fits = lent′ .1 }, tt)))) $
       lends-array ! tt by-hop tt 46 2008 hs hs-are room refl
       (λ α γ. let L : Loan = array-loan 2008 (bs .1 .1 .1 .1 .1 .1 .1 .1 .1 .1 .1 .0) α γ in
-      lends-front ! tt R L n hs few (λ α′ γ′. move ! (3 ∷ []) $ lends-front ! tt u16 N m book few′ (λ β δ. move ! (2 ∷ 0 ∷ []) $
-      -- [the first hops; the first of the book; the rest of it; the rest of the hops; list; replies; numbers; the locals]
+      lends-front ! tt R L n hs few (λ α′ γ′. move ! (3 ∷ []) $
+      lends-front ! tt u16 N m book few′ (λ β δ. move ! (2 ∷ 0 ∷ []) $
+      -- [the first hops; the first of the book; its rest; the rest of the hops; list; replies; numbers; the locals]
       calls-related ! fm (fresh-callee 𝓤 H A) (known .of-fresh)
       (h .0, (h .1 .0, (h .1 .1 .0, (h .1 .1 .1 .0, ((front-loan L n α′ γ′, take n hs), ((front-loan N m β δ, take m book), tt))))))
       (fit .0, (fit .1 .0, (fit .1 .1 .0, (fit .1 .1 .1 .0, tt)))) tt refl
@@ -123,7 +126,8 @@ module _ {M : Type 1} (𝓤 : URA M) (H : Heap 𝓤) (A : Atoms 𝓤) (W : Given
       -- [numbers; list; book; replies; the locals]
       sets ! (of-opd ! (var ! 36 refl)) (init ! 68 refl (stored W by-ended end end-is .0)) $ returns ! (look ! 68 refl) $
       move ! (1 ∷ 2 ∷ 3 ∷ []) $
-      leaves ! (‵ (Views u16 I list) ∷ ‵ (Holds u16 N (left .1 .0)) ∷ ‵ (Holds u16 O (left .1 .1 .0)) ∷ ‵ (Holds u16 Q (put .0)) ∷ [])
+      leaves ! (‵ (Views u16 I list) ∷ ‵ (Holds u16 N (left .1 .0)) ∷ ‵ (Holds u16 O (left .1 .1 .0)) ∷
+      ‵ (Holds u16 Q (put .0)) ∷ [])
       locals bs
       (full locals _) tt $
       concludes ! self h end (left .1 .0, (left .1 .1 .0, (put .0, tt))) end-is
@@ -142,13 +146,18 @@ pub run-list-spec : {M : Type 1} → stated.statement M
 unfolding code.routine tablesOf
 run-list-spec 𝓤 H 𝓜 𝓖 𝓡 =
     let A = 𝓖 .A in
-    proved-own-related 𝓤 H 𝓜 𝓖 𝓡 code.env (run-list-callee 𝓤 H A) tt (λ κs qs. refl) (λ κs qs a g. factI 𝓤 (Unit {0}) _ tt)
+    proved-own-related 𝓤 H 𝓜 𝓖 𝓡 code.env (run-list-callee 𝓤 H A) tt (λ κs qs. refl)
+    (λ κs qs a g. factI 𝓤 (Unit {0}) _ tt)
     (λ κs qs a g r ws _ said. factI 𝓤 _ (emp 𝓤) said)
-    #run-list code.function (code.unfolded 𝓤 H 𝓜 𝓡) (λ h fit rooms _. walk 𝓤 H A (givenOf 𝓤 H 𝓜 𝓖) (own-tables 𝓤 H 𝓜 𝓖 𝓡 code.env) record {
-      of-least = cited 𝓤 H _ 𝓜 𝓡 code.env least-def.name _ code.calls-call-replay·requests·least (least-thm.met 𝓤 H 𝓜 𝓖 𝓡);
+    #run-list code.function (code.unfolded 𝓤 H 𝓜 𝓡) (λ h fit rooms _. walk 𝓤 H A (givenOf 𝓤 H 𝓜 𝓖)
+    (own-tables 𝓤 H 𝓜 𝓖 𝓡 code.env) record {
+      of-least = cited 𝓤 H _ 𝓜 𝓡 code.env least-def.name _ code.calls-call-replay·requests·least
+          (least-thm.met 𝓤 H 𝓜 𝓖 𝓡);
       of-fresh = cited 𝓤 H _ 𝓜 𝓡 code.env fresh-def.name _ code.calls-bench·Bench·fresh (fresh-thm.met 𝓤 H 𝓜 𝓖 𝓡);
       of-bench-made = cited 𝓤 H _ 𝓜 𝓡 code.env bench-made-def.name _ code.calls-call-replay·benches·bench-made
           (bench-made-thm.met 𝓤 H 𝓜 𝓖 𝓡);
-      of-run-calls = cited 𝓤 H _ 𝓜 𝓡 code.env run-calls-def.name _ code.calls-call-replay·benches·run-calls (run-calls-thm.met 𝓤 H 𝓜 𝓖 𝓡);
-      of-put-hops = cited 𝓤 H _ 𝓜 𝓡 code.env put-hops-def.name _ code.calls-call-replay·benches·put-hops (put-hops-thm.met 𝓤 H 𝓜 𝓖 𝓡);
+      of-run-calls = cited 𝓤 H _ 𝓜 𝓡 code.env run-calls-def.name _ code.calls-call-replay·benches·run-calls
+          (run-calls-thm.met 𝓤 H 𝓜 𝓖 𝓡);
+      of-put-hops = cited 𝓤 H _ 𝓜 𝓡 code.env put-hops-def.name _ code.calls-call-replay·benches·put-hops
+          (put-hops-thm.met 𝓤 H 𝓜 𝓖 𝓡);
     } h fit rooms)

@@ -51,7 +51,8 @@ returns c =
     let less = c .before .before .before .before .before .before .before in
     let calls = less .before .before .args .calls .now in
     let n = less .less .result in
-    let part : take (length calls - 6 * n) (drop (6 * n) calls) ≡ drop (6 * (length calls / 6 - less .before .before .args .p .left)) calls
+    let part : take (length calls - 6 * n) (drop (6 * n) calls) ≡ drop
+    (6 * (length calls / 6 - less .before .before .args .p .left)) calls
     =
     part-to-end calls (6 * n) ∙ ap (λ (k : ℕ). drop (6 * k) calls) (less .less .ensures) in
     λ i. record {

@@ -43,7 +43,8 @@ returns c =
     let second = earlier .before in
     let last = c .before .before in
     let hop = first .before .before .before .before .args .hop in
-    written-is (λ i. first .before .wide .ensures i ∷ second .before .wide2 .ensures i ∷ hop .sequence ∷ hop .message ∷ last .before .wide3
+    written-is (λ i. first .before .wide .ensures i ∷ second .before .wide2 .ensures i ∷ hop .sequence ∷
+    hop .message ∷ last .before .wide3
     .ensures i ∷ [])
     (written-append (first .put .ensures) (written-append (second .put2 .ensures) (written-append (put-a .put3 .ensures)
     (written-append (put .put4 .ensures) (last .put5 .ensures)))))

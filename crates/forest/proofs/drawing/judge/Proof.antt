@@ -20,7 +20,8 @@ unfolding accepts
 returns c =
     let b = c .before .before in
     c .judge-parents .ensures
-    ∙ sym (groups-rest _ _ _ _ _ (b .before .judge .ensures) ∙ cond-true _ _ _ (sym (b .is-accepted .ensures) ∙ c .before .if1 .taken))
+    ∙ sym (groups-rest _ _ _ _ _ (b .before .judge .ensures)
+    ∙ cond-true _ _ _ (sym (b .is-accepted .ensures) ∙ c .before .if1 .taken))
 
 returns-2 : tie.Need-returns-2
 unfolding accepts

@@ -13,7 +13,11 @@ returns c = simp (le-ltb _ _ (c .if1 .taken))
 returns-2 : tie.Need-returns-2
 unfolding emptyAt
 returns-2 c =
-    simp (lt-ltb _ _ (c .before .if1 .left), List·getD-eq-default (c .before .before .args .groups .now) 0 {n = c .before .before .args .i} (omega (arith, c .before .before .pre)))
+    let args = c .before .before .args in
+    simp (
+      lt-ltb _ _ (c .before .if1 .left),
+      List·getD-eq-default (args .groups .now) 0 {n = args .i} (omega (arith, c .before .before .pre)),
+    )
 
 mul-result : tie.Need-mul-result
 mul-result c = search needs

@@ -15,7 +15,11 @@ returns-2 : tie.Need-returns-2
 unfolding lacksPrimary hasPrimary
 returns-2 c =
     let args = c .before .before .args in
-    simp (lt-ltb _ _ (c .before .if1 .left), List·getD-eq-default (args .groups .now) 0 {n = args .i} (omega (arith, c .before .before .pre)), no-primary)
+    simp (
+      lt-ltb _ _ (c .before .if1 .left),
+      List·getD-eq-default (args .groups .now) 0 {n = args .i} (omega (arith, c .before .before .pre)),
+      no-primary,
+    )
 
 mul-primary : tie.Need-mul-primary
 mul-primary c = search needs

@@ -8,7 +8,8 @@ use Rattle.forest.proofs.faults.outside_at.Tie as tie
 
 returns : tie.Need-returns
 unfolding outsideAt
-returns c = simp (List·getD-eq-default (c .before .args .groups .now) 0 {n = c .before .args .i} (omega (arith, c .before .pre)), no-difference)
+returns c = simp
+    (List·getD-eq-default (c .before .args .groups .now) 0 {n = c .before .args .i} (omega (arith, c .before .pre)), no-difference)
 
 mul-difference : tie.Need-mul-difference
 mul-difference c = search needs

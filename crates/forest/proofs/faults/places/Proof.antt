@@ -28,7 +28,8 @@ loop-less c = search needs
 
 loop-again : tie.Need-loop-again Inv-loop μ-loop
 loop-again c =
-    collected-turn _ (c .before .before .before .before .loop .inv) (c .before .before .before .loop-test .taken) (c .before .faulty .ensures)
+    collected-turn _ (c .before .before .before .before .loop .inv) (c .before .before .before .loop-test .taken)
+    (c .before .faulty .ensures)
     (c .including-if .ensures)
 
 returns : tie.Need-returns Inv-loop μ-loop

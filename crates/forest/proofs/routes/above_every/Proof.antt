@@ -47,7 +47,8 @@ loop-again : tie.Need-loop-again Inv-loop μ-loop
 unfolding aboveEvery
 loop-again c =
     let low = c .before .before .before in
-    followed-turn (λ _. intersection) _ _ (λ ps k. refl) (low .before .before .loop .inv) (low .before .loop-test .taken) (low .lowest .ensures)
+    followed-turn (λ _. intersection) _ _ (λ ps k. refl) (low .before .before .loop .inv) (low .before .loop-test .taken)
+    (low .lowest .ensures)
     (c .excluding .ensures) (c .before .intersection .ensures)
 
 returns : tie.Need-returns Inv-loop μ-loop

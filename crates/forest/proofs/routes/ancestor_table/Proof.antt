@@ -16,15 +16,18 @@ use Rattle.forest.proofs.routes.ancestor_table.Statement.{statement}
 use Rattle.forest.proofs.routes.ancestor_table.Tie as tie
 
 abbrev Inv-loop : tie.InvT-loop
-Inv-loop parents units table₀ left₀ table left = Left units left × (table ≡ updated units (ancestors parents) (λ u. 0) (lowest left))
+Inv-loop parents units table₀ left₀ table left =
+    Left units left × (table ≡ updated units (ancestors parents) (λ u. 0) (lowest left))
 
 abbrev μ-loop : tie.MeasureT-loop
 μ-loop parents units table₀ left₀ table left = size left
 
 loop-holds : tie.Need-loop-holds Inv-loop μ-loop
 unfolding tabulate
-loop-holds c =
-    (left-all _ (c .fits .units .fits), visits-start _ _ (updated-still _ _ _) (updated-none _ _ _ _ refl (λ u b. getD-tabulate {A = ℕ} 32 (λ v. 0) u 0 b)))
+loop-holds c = (
+  left-all _ (c .fits .units .fits),
+  visits-start _ _ (updated-still _ _ _) (updated-none _ _ _ _ refl (λ u b. getD-tabulate {A = ℕ} 32 (λ v. 0) u 0 b)),
+)
 
 lowest-requires : tie.Need-lowest-requires Inv-loop μ-loop
 lowest-requires c κs = search needs
@@ -58,8 +61,10 @@ loop-again c =
     let new = ancestors (a .parents .now) in
     let k = low .lowest .result in (
       left-turn (inv .0) (low .before .loop-test .taken) (low .lowest .ensures) (c .excluding .ensures),
-      visits-turn _ _ (updated-still (a .units) new _) (inv .0) (low .before .loop-test .taken) (low .lowest .ensures) (c .excluding .ensures) (inv .1)
-          (λ b m e. ap (set (low .before .before .loop .table) k) (c .before .climbed .ensures) ∙ ap (λ (l : List ℕ). set l k (new k)) e
+      visits-turn _ _ (updated-still (a .units) new _) (inv .0) (low .before .loop-test .taken) (low .lowest .ensures)
+          (c .excluding .ensures) (inv .1)
+          (λ b m e. ap (set (low .before .before .loop .table) k) (c .before .climbed .ensures)
+          ∙ ap (λ (l : List ℕ). set l k (new k)) e
           ∙ updated-turn (a .units) new _ k b m),
     )
 

@@ -57,7 +57,8 @@ loop-again c =
     let low = c .before .before .before .before in
     let a = low .before .before .before .args in
     let set = low .before .before .loop .set in
-    followed-turn (op (a .primary)) _ (a .some) (route-steps (a .primary) (a .some)) (low .before .before .loop .inv) (low .before .loop-test .taken)
+    followed-turn (op (a .primary)) _ (a .some) (route-steps (a .primary) (a .some)) (low .before .before .loop .inv)
+    (low .before .loop-test .taken)
     (low .lowest .ensures) (c .excluding .ensures)
     (c .before .including-if .ensures ∙ ap (includingIf set (low .lowest .result)) (c .before .before .member .ensures))
 
@@ -65,7 +66,8 @@ returns : tie.Need-returns Inv-loop μ-loop
 returns c =
     let start = c .before .before in
     let a = start .args in
-    followed-all (op (a .primary)) _ (a .some) (route-steps (a .primary) (a .some)) (c .before .loop .inv) (start .fits .some .fits) (c .loop-test .left)
+    followed-all (op (a .primary)) _ (a .some) (route-steps (a .primary) (a .some)) (c .before .loop .inv)
+    (start .fits .some .fits) (c .loop-test .left)
 
 pub below-primary-spec : {M : Type 1} → statement M
 below-primary-spec =

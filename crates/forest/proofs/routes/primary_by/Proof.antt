@@ -18,7 +18,8 @@ returns : tie.Need-returns
 unfolding primary
 returns c ps h =
     let every = c .before .before in
-    c .lowest .ensures ∙ ap lowest (c .before .intersection .ensures ∙ ap (intersection (every .before .args .group)) (every .above-every .ensures ps h))
+    c .lowest .ensures ∙ ap lowest (c .before .intersection .ensures
+    ∙ ap (intersection (every .before .args .group)) (every .above-every .ensures ps h))
 
 pub primary-by-spec : {M : Type 1} → statement M
 primary-by-spec =

@@ -19,7 +19,8 @@ returns c ps h e =
     let some = c .before in
     let start = some .before in
     c .below-primary .ensures ps (any-known h (some .above-some .ok))
-    ∙ ap₂ (λ (top some : ℕ). collect 32 (onRoute ps top some)) e (some .above-some .ensures ps (any-known h (start .fits .group .fits)))
+    ∙ ap₂ (λ (top some : ℕ). collect 32 (onRoute ps top some)) e
+    (some .above-some .ensures ps (any-known h (start .fits .group .fits)))
 
 pub route-by-spec : {M : Type 1} → statement M
 route-by-spec = tie.close (tie.spec above-some-requires below-primary-requires returns)

@@ -13,7 +13,7 @@ use Rattle.lines.proofs.Drawings.{drawing-missing, drawing-build, drawi
 use Rattle.lines.proofs.entries.parents.Statement.{statement}
 use Rattle.lines.proofs.entries.parents.Tie as tie
 
--- the rest of the file
+-- what is left of the file
 abbrev rest-at : tie.Else1 → List ℕ
 rest-at c = c .before .before .before .before .args .rest .now
 
@@ -111,7 +111,8 @@ returns-3 c =
     let fault = c .before .before .fault in
     c .undrawn3 .ensures
     ∙ sym
-    (drawing-faulty (units-at k) (rest-at k) _ (found k) (small k) (other e) (entries .result) (fault .result) (entries .ensures) (fault .ensures)
+    (drawing-faulty (units-at k) (rest-at k) _ (found k) (small k) (other e) (entries .result) (fault .result)
+    (entries .ensures) (fault .ensures)
     (c .before .if3 .taken))
 
 add-t11 : tie.Need-add-t11
@@ -125,7 +126,8 @@ returns-4 c =
     let entries = c .before .before .before .read-entries in
     let fault = c .before .before .fault in
     sym
-    (drawing-drawn (units-at k) (rest-at k) _ (found k) (small k) (other e) (entries .result) (fault .result) (entries .ensures) (fault .ensures)
+    (drawing-drawn (units-at k) (rest-at k) _ (found k) (small k) (other e) (entries .result) (fault .result)
+    (entries .ensures) (fault .ensures)
     (c .before .if3 .left))
 
 pub parents-spec : {M : Type 1} → statement M

@@ -14,7 +14,8 @@ returns : tie.Need-returns
 returns c = search needs
 
 returns-2 : tie.Need-returns-2
-returns-2 c = let a = c .before .args in let l : length (a .parents) ≡ 32 = search needs in sym (set-out (a .parents) (a .at) (a .p) (omega arith))
+returns-2 c = let a = c .before .args in let l : length (a .parents) ≡ 32 = search needs in
+    sym (set-out (a .parents) (a .at) (a .p) (omega arith))
 
 pub with-parent-spec : {M : Type 1} → statement M
 with-parent-spec = tie.close (tie.spec array-write-next returns returns-2)

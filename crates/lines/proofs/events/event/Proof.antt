@@ -17,7 +17,7 @@ use Rattle.lines.proofs.Sends.{event-endless, event-other, event-send, 
 use Rattle.lines.proofs.events.event.Statement.{statement}
 use Rattle.lines.proofs.events.event.Tie as tie
 
--- the rest of the file, where the line's end was looked for
+-- what is left of the file, where the line's end was looked for
 abbrev rest-at : tie.After-find → List ℕ
 rest-at c = c .before .before .args .rest .now
 
@@ -46,7 +46,8 @@ arrive-found c =
     let ends = other .before .before .before .before .if1 .left in
     key-found (rest-at f) (f .find .result) (f .find .ensures) arriveKey (said .result) (said .ensures) ends (c .if3 .taken)
 
-arrive-not : (c : tie.Else3) → startsWith arriveKey (firstLine (rest-at (c .before .before .before .before .before .before .before .before .before))) ≡ false
+arrive-not : (c : tie.Else3) → startsWith arriveKey (firstLine (rest-at
+    (c .before .before .before .before .before .before .before .before .before))) ≡ false
 unfolding arriveKey
 arrive-not c =
     let f = c .before .before .before .before .before .before .before .before .before in
@@ -105,7 +106,8 @@ returns-2 c =
     ∙ sym (event-send (rest-at f) (f .find .result) (send-found s))
 
 slice-aggregate-starts-with-3 : tie.Need-slice-aggregate-starts-with-3
-slice-aggregate-starts-with-3 c = let f = c .before .before .before .before .before .before in lent-length (rest-at f) (f .find .result) (f .find .ensures)
+slice-aggregate-starts-with-3 c = let f = c .before .before .before .before .before .before in
+    lent-length (rest-at f) (f .find .result) (f .find .ensures)
 
 slice-aggregate-starts-with-4 : tie.Need-slice-aggregate-starts-with-4
 slice-aggregate-starts-with-4 c = search needs
@@ -152,7 +154,11 @@ returns-4 c =
     let other = c .before .before .before .before .before in
     let f = other .before .before .before .before .before in
     let p : placeOf 10 (rest-at f) ≤ length (rest-at f) = place-le 10 (rest-at f) in
-    let i : placeOf 10 (rest-at f) < length (rest-at f) = omega (arith, f .find .ensures, other .before .before .before .before .if1 .left) in
+    let i : placeOf 10 (rest-at f) < length (rest-at f) = omega (
+      arith,
+      f .find .ensures,
+      other .before .before .before .before .if1 .left,
+    ) in
     c .faulty2 .ensures ∙ sym (event-other (rest-at f) i (send-not other) (arrive-not (c .before)))
 
 pub event-spec : {M : Type 1} → statement M

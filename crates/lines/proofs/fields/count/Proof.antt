@@ -10,7 +10,8 @@ use Rattle.lines.proofs.fields.count.Statement.{statement}
 use Rattle.lines.proofs.fields.count.Tie as tie
 
 -- past the first test the line is there
-found : (c : tie.Else1) → let args = c .before .before .before .before .args in Found (args .key .now) (args .rest .now) (c .before .line-end .result)
+found : (c : tie.Else1) → let args = c .before .before .before .before .args in
+    Found (args .key .now) (args .rest .now) (c .before .line-end .result)
 found c = end-found _ _ _ (c .before .line-end .ensures) (c .if1 .left)
 
 -- the number is the line's
@@ -54,7 +55,8 @@ faulty-requires-3 c κs = search needs
 returns-3 : tie.Need-returns-3
 returns-3 c =
     let met = c .before .before .before in
-    c .faulty3 .ensures ∙ sym (count-low _ _ _ _ _ _ (found (met .before .before)) (said met) (c .before .before .if2 .left) (c .before .if3 .taken))
+    c .faulty3 .ensures ∙ sym (count-low _ _ _ _ _ _ (found (met .before .before)) (said met) (c .before .before .if2 .left)
+    (c .before .if3 .taken))
 
 faulty-requires-4 : tie.Need-faulty-requires-4
 faulty-requires-4 c κs = search needs
@@ -71,7 +73,8 @@ add-t8 c = omega (arith, found (c .before .before .before .before .before))
 returns-5 : tie.Need-returns-5
 returns-5 c =
     let met = c .before .before .before in
-    sym (count-good _ _ _ _ _ _ (found (met .before .before)) (said met) (c .before .before .if2 .left) (c .before .if3 .left) (c .if4 .left))
+    sym (count-good _ _ _ _ _ _ (found (met .before .before)) (said met) (c .before .before .if2 .left)
+    (c .before .if3 .left) (c .if4 .left))
 
 pub count-spec : {M : Type 1} → statement M
 count-spec =

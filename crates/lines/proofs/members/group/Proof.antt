@@ -23,7 +23,8 @@ read : (c : tie.After-read-members) → let args = c .before .before .before .be
 unfolding groupKey
 read c =
     let units = c .before .before .before .before .before .before .args .units in
-    c .read-members .ensures ∙ ap (λ (v : List ℕ). foldl (withMember units) noMembers (numbersIn v)) (value-is groupKey _ _ (found (c .before .before)))
+    c .read-members .ensures ∙ ap (λ (v : List ℕ). foldl (withMember units) noMembers (numbersIn v))
+    (value-is groupKey _ _ (found (c .before .before)))
 
 slice-aggregate-line-end : tie.Need-slice-aggregate-line-end
 slice-aggregate-line-end c = search needs
@@ -62,7 +63,8 @@ faulty-requires-2 c κs = search needs
 returns-2 : tie.Need-returns-2
 returns-2 c =
     let met = c .before .before in
-    c .faulty2 .ensures ∙ sym (group-faulty _ _ _ (found (met .before .before .before)) _ _ (read (met .before)) (met .fault .ensures) (c .before .if2 .taken))
+    c .faulty2 .ensures ∙ sym (group-faulty _ _ _ (found (met .before .before .before)) _ _ (read (met .before)) (met .fault .ensures)
+    (c .before .if2 .taken))
 
 add-t9 : tie.Need-add-t9
 add-t9 c = omega (arith, found (c .before .before .before .before))

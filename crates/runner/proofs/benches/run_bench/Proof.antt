@@ -1,8 +1,8 @@
 -- `benches::run_bench` meets its contract: a walk of its MIR, by hand. The local array of hops is filled with zeros and lent to `run_hops`,
 -- with the lists.
-use Rattle.hand_proofs.proofs.Prelude.{refl, [], _∷_, List, ℕ, _<_, _^_, arith, replicate, URA, w64, WT, vint, emp, Heap, Tables, Atoms}
-use Rattle.hand_proofs.proofs.Prelude.{fmOf, factI, givenOf, tablesOf, Given, ‵, _$_, !, move, look, init, stop, from, addr, lit, agg}
-use Rattle.hand_proofs.proofs.Prelude.{no-more, returns, u8, u16, Triple, cited, stored, by-array, Loan, Holds, Views, Handed, Fit}
+use Rattle.hand_proofs.proofs.Prelude.{refl, [], _∷_, List, ℕ, _<_, _^_, arith, replicate, URA, w64, WT, vint, emp, Heap, Tables}
+use Rattle.hand_proofs.proofs.Prelude.{Atoms, fmOf, factI, givenOf, tablesOf, Given, ‵, _$_, !, move, look, init, stop, from, addr, lit}
+use Rattle.hand_proofs.proofs.Prelude.{agg, no-more, returns, u8, u16, Triple, cited, stored, by-array, Loan, Holds, Views, Handed, Fit}
 use Rattle.hand_proofs.proofs.Prelude.{contract-related, calls-related, Rooms, suited, RelationalDuty, Goes-related, starts-related}
 use Rattle.hand_proofs.proofs.Prelude.{duty-related, concludes, own-tables, proved-own-related, var, ptr-of, slice-of, big-lit, _&_, sets}
 use Rattle.hand_proofs.proofs.Prelude.{into, full, leaves, repeated, repeats, array-loan, lends-array, array-back}
@@ -44,7 +44,8 @@ module _ {M : Type 1} (𝓤 : URA M) (H : Heap 𝓤) (A : Atoms 𝓤) (W : Given
       (init ! 7 refl (tt, (tt, (book-wt, tt)))) $
       sets ! (ptr-of ! 19 refl refl) (init ! 5 refl (tt, tt)) $ sets ! (slice-of ! 5 19 refl refl refl)
       (init ! 3 refl (tt, (tt, (out-wt, tt)))) $
-      lends-array ! tt by-hop tt 17 2000 hs hs-are room refl (λ α γ. let L : Loan = array-loan 2000 (bs .1 .1 .1 .1 .1 .1 .1 .1 .0) α γ in
+      lends-array ! tt by-hop tt 17 2000 hs hs-are room refl (λ α γ. let L : Loan = array-loan 2000
+      (bs .1 .1 .1 .1 .1 .1 .1 .1 .0) α γ in
       -- [hops; list; book; output; the locals]
       move ! (1 ∷ 0 ∷ []) $
       calls-related ! (fmOf 𝓤 H (W .laws) 𝓣) (run-hops-callee 𝓤 H A) of-run-hops
@@ -56,14 +57,18 @@ module _ {M : Type 1} (𝓤 : URA M) (H : Heap 𝓤) (A : Atoms 𝓤) (W : Given
       into ! (init ! 34 refl (stored W by-totals r r-is .0)) $ move ! (1 ∷ []) $ array-back ! tt by-hop 17 (left .0) refl (λ _.
       -- [list; book; output; the locals]
       returns ! (look ! 33 refl) $
-      leaves ! (‵ (Views u16 I list) ∷ ‵ (Holds u16 N (left .1 .0)) ∷ ‵ (Holds u8 O (left .1 .1 .0)) ∷ []) locals bs (full locals _) tt $
+      leaves ! (‵ (Views u16 I list) ∷ ‵ (Holds u16 N (left .1 .0)) ∷ ‵ (Holds u8 O (left .1 .1 .0)) ∷ []) locals
+      bs (full locals _) tt $
       concludes ! self h r (left .1 .0, (left .1 .1 .0, tt)) r-is (left .0, ran)))))
 
 pub run-bench-spec : {M : Type 1} → stated.statement M
 unfolding code.routine tablesOf
 run-bench-spec 𝓤 H 𝓜 𝓖 𝓡 =
     let A = 𝓖 .A in
-    proved-own-related 𝓤 H 𝓜 𝓖 𝓡 code.env (run-bench-callee 𝓤 H A) tt (λ κs qs. refl) (λ κs qs a g. factI 𝓤 (Unit {0}) _ tt)
+    proved-own-related 𝓤 H 𝓜 𝓖 𝓡 code.env (run-bench-callee 𝓤 H A) tt (λ κs qs. refl)
+    (λ κs qs a g. factI 𝓤 (Unit {0}) _ tt)
     (λ κs qs a g r ws _ said. factI 𝓤 _ (emp 𝓤) said)
-    #run-bench code.function (code.unfolded 𝓤 H 𝓜 𝓡) (λ h fit rooms _. walk 𝓤 H A (givenOf 𝓤 H 𝓜 𝓖) (own-tables 𝓤 H 𝓜 𝓖 𝓡 code.env)
-    (cited 𝓤 H _ 𝓜 𝓡 code.env run-hops-def.name _ code.calls-runner·benches·run-hops (run-hops-thm.met 𝓤 H 𝓜 𝓖 𝓡)) h fit rooms)
+    #run-bench code.function (code.unfolded 𝓤 H 𝓜 𝓡) (λ h fit rooms _. walk 𝓤 H A (givenOf 𝓤 H 𝓜 𝓖)
+    (own-tables 𝓤 H 𝓜 𝓖 𝓡 code.env)
+    (cited 𝓤 H _ 𝓜 𝓡 code.env run-hops-def.name _ code.calls-runner·benches·run-hops (run-hops-thm.met 𝓤 H 𝓜 𝓖 𝓡)) h
+    fit rooms)

@@ -1,12 +1,12 @@
 -- `benches::run_hops` meets its contract: a walk of its MIR, by hand. `Bench::fresh` is lent the hops and the book; the bench is taken
 -- apart into arrays, which are lent to `run_events` with the other lists, and then to `finish`; `rest` tells how it stands. What they
 -- promise makes up `BenchRun`.
-use Rattle.hand_proofs.proofs.Prelude.{refl, [], _∷_, List, ℕ, _<_, _^_, arith, URA, w16, w64, WT, vint, emp, Heap, Tables, Atoms, fmOf}
-use Rattle.hand_proofs.proofs.Prelude.{factI, givenOf, tablesOf, Given, ‵, _$_, !, move, look, init, store, stop, from, addr, agg, lit}
-use Rattle.hand_proofs.proofs.Prelude.{of-opd, no-more, returns, u8, u16, Triple, cited, stored, by-uint, Loan, Holds, Views, Handed, Fit}
-use Rattle.hand_proofs.proofs.Prelude.{contractOf, calls, contract-related, calls-related, Rooms, suited, RelationalDuty, Goes-related}
-use Rattle.hand_proofs.proofs.Prelude.{starts-related, duty-related, concludes, own-tables, proved-own-related, var, ptr-of, slice-of, _&_}
-use Rattle.hand_proofs.proofs.Prelude.{sets, into, full, leaves, array-loan, lends-array, array-back}
+use Rattle.hand_proofs.proofs.Prelude.{refl, [], _∷_, List, ℕ, _<_, _^_, arith, URA, w16, w64, WT, vint, emp, Heap, Tables, Atoms}
+use Rattle.hand_proofs.proofs.Prelude.{fmOf, factI, givenOf, tablesOf, Given, ‵, _$_, !, move, look, init, store, stop, from, addr, agg}
+use Rattle.hand_proofs.proofs.Prelude.{lit, of-opd, no-more, returns, u8, u16, Triple, cited, stored, by-uint, Loan, Holds, Views, Handed}
+use Rattle.hand_proofs.proofs.Prelude.{Fit, contractOf, calls, contract-related, calls-related, Rooms, suited, RelationalDuty}
+use Rattle.hand_proofs.proofs.Prelude.{Goes-related, starts-related, duty-related, concludes, own-tables, proved-own-related, var, ptr-of}
+use Rattle.hand_proofs.proofs.Prelude.{slice-of, _&_, sets, into, full, leaves, array-loan, lends-array, array-back}
 use mir.Syntax.{w32}
 use denote.Builtin.{u32}
 use denote.Slice.{Room}
@@ -70,14 +70,16 @@ record Known {M : Type 1} (𝓤 : URA M) (H : Heap 𝓤) (A : Atoms 𝓤) (𝓣 
 -- a bench taken apart
 taken-apart : (b : Bench) (count : ℕ) {list : List ℕ} {hs hs′ : List Hop} {book book′ out out′ : List ℕ} {end : Progress}
     {last : BenchLists}
-    → EventsRun list (begunWith count (b .totals)) (bench (begunWith count (b .totals) .totals) (b .tables) (b .messages) (b .pairs .grids)
+    → EventsRun list (begunWith count (b .totals)) (bench (begunWith count (b .totals) .totals) (b .tables)
+    (b .messages) (b .pairs .grids)
     (b .gauges)) hs book out
     end last hs′ book′ out′
     → EventsRun list (begunWith count (listsOf b .totals)) (listsOf b) hs book out end last hs′ book′ out′
 unfolding begunWith listsOf
 taken-apart b count run = run
 
-module _ {M : Type 1} (𝓤 : URA M) (H : Heap 𝓤) (A : Atoms 𝓤) (W : Given 𝓤 H A) (𝓣 : Tables 𝓤 H) (known : Known 𝓤 H A 𝓣) where
+module _ {M : Type 1} (𝓤 : URA M) (H : Heap 𝓤) (A : Atoms 𝓤) (W : Given 𝓤 H A) (𝓣 : Tables 𝓤 H)
+    (known : Known 𝓤 H A 𝓣) where
   abbrev self : RelationalDuty 𝓤 H A
   self = duty-related (run-hops-callee 𝓤 H A)
 
@@ -164,7 +166,8 @@ module _ {M : Type 1} (𝓤 : URA M) (H : Heap 𝓤) (A : Atoms 𝓤) (W : Given
       (λ end ran runs end-is.
       into ! (init ! 76 refl (stored W by-progress end end-is .0)) $
       let ms′ : List ℕ = ran .0 in let ps′ : List (List (List ℕ)) = ran .1 .0 in let gs′ : List ℕ = ran .1 .1 .0 in
-      let hs′ : List Hop = ran .1 .1 .1 .0 in let book′ : List ℕ = ran .1 .1 .1 .1 .0 in let out′ : List ℕ = ran .1 .1 .1 .1 .1 .0 in
+      let hs′ : List Hop = ran .1 .1 .1 .0 in let book′ : List ℕ = ran .1 .1 .1 .1 .0 in
+      let out′ : List ℕ = ran .1 .1 .1 .1 .1 .0 in
       -- [list; tables; messages; pairs; gauges; hops; book; output; the locals]
       calls ! fm (totals-of-callee 𝓤 H A) (known .of-totals-of) (end, tt) (end-is, tt) tt refl (var ! 76 refl & no-more !) (λ t′-is.
       into ! (store ! 56 refl (stored W by-counts (end .totals) t′-is .0)) $
@@ -186,15 +189,18 @@ module _ {M : Type 1} (𝓤 : URA M) (H : Heap 𝓤) (A : Atoms 𝓤) (W : Given
       (init ! 8 refl (tt, (tt, (out-wt, tt)))) $
       move ! (2 ∷ 5 ∷ 6 ∷ 7 ∷ []) $
       -- [tables; gauges; book; output; hops; list; messages; pairs]
-      calls-related ! fm (finish-shown-callee 𝓤 H A) (known .of-finish) (end, (rest, ((T, ts), ((Q, gs′), ((N, book′), ((O, out′), tt))))))
+      calls-related ! fm (finish-shown-callee 𝓤 H A) (known .of-finish)
+      (end, (rest, ((T, ts), ((Q, gs′), ((N, book′), ((O, out′), tt))))))
       (end-is, (rest-is, tt)) tt refl
       (var ! 76 refl & var ! 74 refl & var ! 20 refl & var ! 16 refl & var ! 12 refl & var ! 8 refl & no-more !) (λ r left finishes r-is.
       into ! (init ! 108 refl (stored W by-totals r r-is .0)) $
       array-back ! tt (by-uint w32) 85 ts refl (λ _. array-back ! tt (by-uint w16) 78 gs′ refl (λ _.
-      move ! (4 ∷ []) $ array-back ! tt (by-uint w32) 81 ms′ refl (λ _. move ! (4 ∷ []) $ array-back ! tt by-grid 78 ps′ refl (λ _.
+      move ! (4 ∷ []) $ array-back ! tt (by-uint w32) 81 ms′ refl (λ _. move ! (4 ∷ []) $
+      array-back ! tt by-grid 78 ps′ refl (λ _.
       -- [book; output; hops; list]
       move ! (3 ∷ 2 ∷ []) $ returns ! (look ! 104 refl) $
-      leaves ! (‵ (Views u16 I list) ∷ ‵ (Holds R L hs′) ∷ ‵ (Holds u16 N book′) ∷ ‵ (Holds u8 O (left .0)) ∷ []) locals bs (full locals _)
+      leaves ! (‵ (Views u16 I list) ∷ ‵ (Holds R L hs′) ∷ ‵ (Holds u16 N book′) ∷ ‵ (Holds u8 O (left .0)) ∷ [])
+      locals bs (full locals _)
       tt $
       concludes ! self h r (hs′, (book′, (left .0, tt))) r-is record {
         reply = fresh .reply;
@@ -215,19 +221,31 @@ pub run-hops-spec : {M : Type 1} → stated.statement M
 unfolding code.routine tablesOf
 run-hops-spec 𝓤 H 𝓜 𝓖 𝓡 =
     let A = 𝓖 .A in
-    proved-own-related 𝓤 H 𝓜 𝓖 𝓡 code.env (run-hops-callee 𝓤 H A) tt (λ κs qs. refl) (λ κs qs a g. factI 𝓤 (Unit {0}) _ tt)
+    proved-own-related 𝓤 H 𝓜 𝓖 𝓡 code.env (run-hops-callee 𝓤 H A) tt (λ κs qs. refl)
+    (λ κs qs a g. factI 𝓤 (Unit {0}) _ tt)
     (λ κs qs a g r ws _ said. factI 𝓤 _ (emp 𝓤) said)
-    #run-hops code.function (code.unfolded 𝓤 H 𝓜 𝓡) (λ h fit rooms _. walk 𝓤 H A (givenOf 𝓤 H 𝓜 𝓖) (own-tables 𝓤 H 𝓜 𝓖 𝓡 code.env) record {
+    #run-hops code.function (code.unfolded 𝓤 H 𝓜 𝓡) (λ h fit rooms _. walk 𝓤 H A (givenOf 𝓤 H 𝓜 𝓖)
+    (own-tables 𝓤 H 𝓜 𝓖 𝓡 code.env) record {
       of-fresh = cited 𝓤 H _ 𝓜 𝓡 code.env fresh-def.name _ code.calls-bench·Bench·fresh (fresh-thm.met 𝓤 H 𝓜 𝓖 𝓡);
-      of-bench-of = cited 𝓤 H _ 𝓜 𝓡 code.env bench-of-def.name _ code.calls-runner·benches·bench-of (bench-of-thm.met 𝓤 H 𝓜 𝓖 𝓡);
-      of-tables-of = cited 𝓤 H _ 𝓜 𝓡 code.env tables-of-def.name _ code.calls-bench·tables-of (tables-of-thm.met 𝓤 H 𝓜 𝓖 𝓡);
-      of-messages-of = cited 𝓤 H _ 𝓜 𝓡 code.env messages-of-def.name _ code.calls-bench·messages-of (messages-of-thm.met 𝓤 H 𝓜 𝓖 𝓡);
-      of-pairs-of = cited 𝓤 H _ 𝓜 𝓡 code.env pairs-of-def.name _ code.calls-bench·pairs-of (pairs-of-thm.met 𝓤 H 𝓜 𝓖 𝓡);
-      of-gauges-of = cited 𝓤 H _ 𝓜 𝓡 code.env gauges-of-def.name _ code.calls-bench·gauges-of (gauges-of-thm.met 𝓤 H 𝓜 𝓖 𝓡);
-      of-bench-totals = cited 𝓤 H _ 𝓜 𝓡 code.env bench-totals-def.name _ code.calls-bench·totals-of (bench-totals-thm.met 𝓤 H 𝓜 𝓖 𝓡);
+      of-bench-of = cited 𝓤 H _ 𝓜 𝓡 code.env bench-of-def.name _ code.calls-runner·benches·bench-of
+          (bench-of-thm.met 𝓤 H 𝓜 𝓖 𝓡);
+      of-tables-of = cited 𝓤 H _ 𝓜 𝓡 code.env tables-of-def.name _ code.calls-bench·tables-of
+          (tables-of-thm.met 𝓤 H 𝓜 𝓖 𝓡);
+      of-messages-of = cited 𝓤 H _ 𝓜 𝓡 code.env messages-of-def.name _ code.calls-bench·messages-of
+          (messages-of-thm.met 𝓤 H 𝓜 𝓖 𝓡);
+      of-pairs-of = cited 𝓤 H _ 𝓜 𝓡 code.env pairs-of-def.name _ code.calls-bench·pairs-of
+          (pairs-of-thm.met 𝓤 H 𝓜 𝓖 𝓡);
+      of-gauges-of = cited 𝓤 H _ 𝓜 𝓡 code.env gauges-of-def.name _ code.calls-bench·gauges-of
+          (gauges-of-thm.met 𝓤 H 𝓜 𝓖 𝓡);
+      of-bench-totals = cited 𝓤 H _ 𝓜 𝓡 code.env bench-totals-def.name _ code.calls-bench·totals-of
+          (bench-totals-thm.met 𝓤 H 𝓜 𝓖 𝓡);
       of-begun = cited 𝓤 H _ 𝓜 𝓡 code.env begun-def.name _ code.calls-runner·events·begun (begun-thm.met 𝓤 H 𝓜 𝓖 𝓡);
-      of-run-events = cited 𝓤 H _ 𝓜 𝓡 code.env run-events-def.name _ code.calls-runner·events·run-events (run-events-thm.met 𝓤 H 𝓜 𝓖 𝓡);
-      of-totals-of = cited 𝓤 H _ 𝓜 𝓡 code.env totals-of-def.name _ code.calls-runner·events·totals-of (totals-of-thm.met 𝓤 H 𝓜 𝓖 𝓡);
-      of-rest = cited 𝓤 H _ 𝓜 𝓡 code.env rest-def.name _ code.calls-bench-engine·looking·rest (rest-thm.met 𝓤 H 𝓜 𝓖 𝓡);
-      of-finish = cited 𝓤 H _ 𝓜 𝓡 code.env finish-def.name _ code.calls-runner·results·finish (finish-thm.met 𝓤 H 𝓜 𝓖 𝓡);
+      of-run-events = cited 𝓤 H _ 𝓜 𝓡 code.env run-events-def.name _ code.calls-runner·events·run-events
+          (run-events-thm.met 𝓤 H 𝓜 𝓖 𝓡);
+      of-totals-of = cited 𝓤 H _ 𝓜 𝓡 code.env totals-of-def.name _ code.calls-runner·events·totals-of
+          (totals-of-thm.met 𝓤 H 𝓜 𝓖 𝓡);
+      of-rest = cited 𝓤 H _ 𝓜 𝓡 code.env rest-def.name _ code.calls-bench-engine·looking·rest
+          (rest-thm.met 𝓤 H 𝓜 𝓖 𝓡);
+      of-finish = cited 𝓤 H _ 𝓜 𝓡 code.env finish-def.name _ code.calls-runner·results·finish
+          (finish-thm.met 𝓤 H 𝓜 𝓖 𝓡);
     } h fit rooms)

@@ -1,9 +1,9 @@
 -- `events::run_event` meets its contract: a walk of its MIR, by hand. Functions by value take the progress and the event apart; `send` and
 -- `arrive` of bench_engine are lent the lists; what they promise is one of the two ways to run an event.
 use Rattle.hand_proofs.proofs.Prelude.{refl, [], _∷_, List, ℕ, _-_, URA, w64, WT, vint, emp, Heap, Tables, Atoms, fmOf, factI, givenOf}
-use Rattle.hand_proofs.proofs.Prelude.{tablesOf, Given, ‵, _$_, !, move, look, init, no-more, returns, returns-within, u16, Triple, cited}
-use Rattle.hand_proofs.proofs.Prelude.{stored, Loan, Holds, Views, Handed, Fit, contractOf, calls, contract-related, calls-related, Rooms}
-use Rattle.hand_proofs.proofs.Prelude.{suited, RelationalDuty, Goes-related, starts-related, duty-related, Done-related, concludes}
+use Rattle.hand_proofs.proofs.Prelude.{tablesOf, Given, ‵, _$_, !, move, look, init, no-more, returns, returns-within, u16, Triple}
+use Rattle.hand_proofs.proofs.Prelude.{cited, stored, Loan, Holds, Views, Handed, Fit, contractOf, calls, contract-related, calls-related}
+use Rattle.hand_proofs.proofs.Prelude.{Rooms, suited, RelationalDuty, Goes-related, starts-related, duty-related, Done-related, concludes}
 use Rattle.hand_proofs.proofs.Prelude.{own-tables, proved-own-related, var, ptr-of, slice-of, _&_, sets, into, empty, holds, leaves}
 use Rattle.hand_proofs.proofs.Prelude.{if-then}
 use denote.Builtin.{u32}
@@ -52,7 +52,8 @@ record Known {M : Type 1} (𝓤 : URA M) (H : Heap 𝓤) (A : Atoms 𝓤) (𝓣 
   of-arrive : Triple 𝓤 (𝓣 .C arrive-def.name) (contract-related (arrive-callee 𝓤 H A))
   of-after-arrive : Triple 𝓤 (𝓣 .C after-arrive-def.name) (contractOf (after-arrive-callee 𝓤 H A))
 
-module _ {M : Type 1} (𝓤 : URA M) (H : Heap 𝓤) (A : Atoms 𝓤) (W : Given 𝓤 H A) (𝓣 : Tables 𝓤 H) (known : Known 𝓤 H A 𝓣) where
+module _ {M : Type 1} (𝓤 : URA M) (H : Heap 𝓤) (A : Atoms 𝓤) (W : Given 𝓤 H A) (𝓣 : Tables 𝓤 H)
+    (known : Known 𝓤 H A 𝓣) where
   abbrev self : RelationalDuty 𝓤 H A
   self = duty-related (run-event-callee 𝓤 H A)
 
@@ -61,7 +62,8 @@ module _ {M : Type 1} (𝓤 : URA M) (H : Heap 𝓤) (A : Atoms 𝓤) (W : Given
   walk h fit rooms =
       let fm = fmOf 𝓤 H (W .laws) 𝓣 in let p : Progress = h .0 in let e : Event = h .1 .0 in let t : Totals = p .totals in
       -- lent: the tables at I, the messages at J, the pairs at K, the gauges at Q, the hops at L, the book at N
-      let l = h .1 .1 in let I : Loan = l .0 .0 in let ts : List ℕ = l .0 .1 in let J : Loan = l .1 .0 .0 in let ms : List ℕ = l .1 .0 .1 in
+      let l = h .1 .1 in let I : Loan = l .0 .0 in let ts : List ℕ = l .0 .1 in let J : Loan = l .1 .0 .0 in
+      let ms : List ℕ = l .1 .0 .1 in
       let K : Loan = l .1 .1 .0 .0 in let ps : List (List (List ℕ)) = l .1 .1 .0 .1 in let Q : Loan = l .1 .1 .1 .0 .0 in
       let gs : List ℕ = l .1 .1 .1 .0 .1 in
       let L : Loan = l .1 .1 .1 .1 .0 .0 in let hs : List Hop = l .1 .1 .1 .1 .0 .1 in
@@ -108,7 +110,8 @@ module _ {M : Type 1} (𝓤 : URA M) (H : Heap 𝓤) (A : Atoms 𝓤) (W : Given
       leaves ! (‵ (Views u32 I ts) ∷ ‵ (Holds u32 J (es .0)) ∷ ‵ (Holds Grid K (es .1 .0)) ∷ ‵ (Holds u16 Q gs) ∷ ‵
       (Holds R L (es .1 .1 .0)) ∷ ‵ (Holds u16 N book) ∷ [])
       locals bs
-      (holds _ ∷ holds _ ∷ holds _ ∷ holds _ ∷ holds _ ∷ holds _ ∷ holds _ ∷ holds _ ∷ holds _ ∷ holds _ ∷ holds _ ∷ holds _ ∷
+      (holds _ ∷ holds _ ∷ holds _ ∷ holds _ ∷ holds _ ∷ holds _ ∷ holds _ ∷ holds _ ∷ holds _ ∷ holds _ ∷
+      holds _ ∷ holds _ ∷
       empty ∷ holds _ ∷ holds _ ∷ holds _ ∷ holds _ ∷ holds _ ∷ holds _ ∷ holds _ ∷ holds _ ∷ holds _ ∷
       empty ∷ empty ∷ empty ∷ empty ∷ empty ∷ empty ∷ empty ∷ empty ∷ empty ∷ empty ∷ []) tt $
       concludes ! self h (afterSend p r) (es .0, (es .1 .0, (gs, (es .1 .1 .0, (book, tt))))) q-is
@@ -136,7 +139,8 @@ module _ {M : Type 1} (𝓤 : URA M) (H : Heap 𝓤) (A : Atoms 𝓤) (W : Given
       into ! (init ! 68 refl (stored W by-progress (afterArrive p r) q-is .0)) $ returns ! (look ! 68 refl) $
       leaves ! (‵ (Views u32 I ts) ∷ ‵ (Holds u32 J (es .0)) ∷ ‵ (Holds Grid K (es .1 .0)) ∷ ‵ (Holds u16 Q (es .1 .1 .0))
       ∷ ‵ (Holds R L (es .1 .1 .1 .0)) ∷ ‵ (Holds u16 N (es .1 .1 .1 .1 .0)) ∷ []) locals bs
-      (holds _ ∷ holds _ ∷ holds _ ∷ holds _ ∷ holds _ ∷ holds _ ∷ holds _ ∷ holds _ ∷ holds _ ∷ holds _ ∷ holds _ ∷ empty ∷ holds _ ∷
+      (holds _ ∷ holds _ ∷ holds _ ∷ holds _ ∷ holds _ ∷ holds _ ∷ holds _ ∷ holds _ ∷ holds _ ∷ holds _ ∷
+      holds _ ∷ empty ∷ holds _ ∷
       holds _ ∷
       empty ∷ empty ∷ empty ∷ empty ∷ empty ∷ empty ∷ empty ∷ empty ∷
       holds _ ∷ holds _ ∷ holds _ ∷ holds _ ∷ holds _ ∷ holds _ ∷ holds _ ∷ holds _ ∷ holds _ ∷ holds _ ∷ []) tt $
@@ -147,17 +151,26 @@ pub run-event-spec : {M : Type 1} → stated.statement M
 unfolding code.routine tablesOf
 run-event-spec 𝓤 H 𝓜 𝓖 𝓡 =
     let A = 𝓖 .A in
-    proved-own-related 𝓤 H 𝓜 𝓖 𝓡 code.env (run-event-callee 𝓤 H A) tt (λ κs qs. refl) (λ κs qs a g. factI 𝓤 (Unit {0}) _ tt)
+    proved-own-related 𝓤 H 𝓜 𝓖 𝓡 code.env (run-event-callee 𝓤 H A) tt (λ κs qs. refl)
+    (λ κs qs a g. factI 𝓤 (Unit {0}) _ tt)
     (λ κs qs a g r ws _ said. factI 𝓤 _ (emp 𝓤) said)
-    #run-event code.function (code.unfolded 𝓤 H 𝓜 𝓡) (λ h fit rooms _. walk 𝓤 H A (givenOf 𝓤 H 𝓜 𝓖) (own-tables 𝓤 H 𝓜 𝓖 𝓡 code.env) record {
-      of-totals-of = cited 𝓤 H _ 𝓜 𝓡 code.env totals-of-def.name _ code.calls-runner·events·totals-of (totals-of-thm.met 𝓤 H 𝓜 𝓖 𝓡);
-      of-second = cited 𝓤 H _ 𝓜 𝓡 code.env second-def.name _ code.calls-runner·events·second (second-thm.met 𝓤 H 𝓜 𝓖 𝓡);
-      of-is-send = cited 𝓤 H _ 𝓜 𝓡 code.env is-send-def.name _ code.calls-runner·events·is-send (is-send-thm.met 𝓤 H 𝓜 𝓖 𝓡);
-      of-source = cited 𝓤 H _ 𝓜 𝓡 code.env source-def.name _ code.calls-runner·events·source (source-thm.met 𝓤 H 𝓜 𝓖 𝓡);
+    #run-event code.function (code.unfolded 𝓤 H 𝓜 𝓡) (λ h fit rooms _. walk 𝓤 H A (givenOf 𝓤 H 𝓜 𝓖)
+    (own-tables 𝓤 H 𝓜 𝓖 𝓡 code.env) record {
+      of-totals-of = cited 𝓤 H _ 𝓜 𝓡 code.env totals-of-def.name _ code.calls-runner·events·totals-of
+          (totals-of-thm.met 𝓤 H 𝓜 𝓖 𝓡);
+      of-second = cited 𝓤 H _ 𝓜 𝓡 code.env second-def.name _ code.calls-runner·events·second
+          (second-thm.met 𝓤 H 𝓜 𝓖 𝓡);
+      of-is-send = cited 𝓤 H _ 𝓜 𝓡 code.env is-send-def.name _ code.calls-runner·events·is-send
+          (is-send-thm.met 𝓤 H 𝓜 𝓖 𝓡);
+      of-source = cited 𝓤 H _ 𝓜 𝓡 code.env source-def.name _ code.calls-runner·events·source
+          (source-thm.met 𝓤 H 𝓜 𝓖 𝓡);
       of-third = cited 𝓤 H _ 𝓜 𝓡 code.env third-def.name _ code.calls-runner·events·third (third-thm.met 𝓤 H 𝓜 𝓖 𝓡);
-      of-send = cited 𝓤 H _ 𝓜 𝓡 code.env send-def.name _ code.calls-bench-engine·sending·send (send-thm.met 𝓤 H 𝓜 𝓖 𝓡);
-      of-after-send = cited 𝓤 H _ 𝓜 𝓡 code.env after-send-def.name _ code.calls-runner·events·after-send (after-send-thm.met 𝓤 H 𝓜 𝓖 𝓡);
-      of-arrive = cited 𝓤 H _ 𝓜 𝓡 code.env arrive-def.name _ code.calls-bench-engine·arriving·arrive (arrive-thm.met 𝓤 H 𝓜 𝓖 𝓡);
+      of-send = cited 𝓤 H _ 𝓜 𝓡 code.env send-def.name _ code.calls-bench-engine·sending·send
+          (send-thm.met 𝓤 H 𝓜 𝓖 𝓡);
+      of-after-send = cited 𝓤 H _ 𝓜 𝓡 code.env after-send-def.name _ code.calls-runner·events·after-send
+          (after-send-thm.met 𝓤 H 𝓜 𝓖 𝓡);
+      of-arrive = cited 𝓤 H _ 𝓜 𝓡 code.env arrive-def.name _ code.calls-bench-engine·arriving·arrive
+          (arrive-thm.met 𝓤 H 𝓜 𝓖 𝓡);
       of-after-arrive = cited 𝓤 H _ 𝓜 𝓡 code.env after-arrive-def.name _ code.calls-runner·events·after-arrive
           (after-arrive-thm.met 𝓤 H 𝓜 𝓖 𝓡);
     } h fit rooms)

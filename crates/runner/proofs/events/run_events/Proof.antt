@@ -1,11 +1,11 @@
 -- `events::run_events` meets its contract: a walk of its MIR, by hand. A turn of the loop lends the list on to `is_going` and `event_at`,
 -- the lists of the bench to `run_event`, and the output to `noted`; the loop keeps that every run of the events from where it is completes
 -- one from the start.
-use Rattle.hand_proofs.proofs.Prelude.{_≡_, refl, sym, subst, _∙_, ap, [], _∷_, List, WellFounded, InvImage·wf, ℕ, _+_, _-_, _<_, arith}
-use Rattle.hand_proofs.proofs.Prelude.{Nat·lt-wfRel, URA, w64, WT, vint, vbool, emp, Heap, Env, Tables, afterTurn, Atoms, fmOf, factI}
-use Rattle.hand_proofs.proofs.Prelude.{givenOf, tablesOf, Given, Item, Sq, runs, atRet, anyQ, ‵, _$_, !, move, look, init, store, forget}
-use Rattle.hand_proofs.proofs.Prelude.{of-opd, no-more, first, blocks, exec, again, loops, returns, Is, u8, u16, Triple, cited, stored}
-use Rattle.hand_proofs.proofs.Prelude.{Loan, slice, Holds, Views, Handed, Fit, contractOf, calls, contract-related, calls-related}
+use Rattle.hand_proofs.proofs.Prelude.{_≡_, refl, sym, subst, _∙_, ap, [], _∷_, List, WellFounded, InvImage·wf, ℕ, _+_, _-_, _<_}
+use Rattle.hand_proofs.proofs.Prelude.{arith, Nat·lt-wfRel, URA, w64, WT, vint, vbool, emp, Heap, Env, Tables, afterTurn, Atoms, fmOf}
+use Rattle.hand_proofs.proofs.Prelude.{factI, givenOf, tablesOf, Given, Item, Sq, runs, atRet, anyQ, ‵, _$_, !, move, look, init, store}
+use Rattle.hand_proofs.proofs.Prelude.{forget, of-opd, no-more, first, blocks, exec, again, loops, returns, Is, u8, u16, Triple, cited}
+use Rattle.hand_proofs.proofs.Prelude.{stored, Loan, slice, Holds, Views, Handed, Fit, contractOf, calls, contract-related, calls-related}
 use Rattle.hand_proofs.proofs.Prelude.{calls-related-last, Rooms, suited, RelationalDuty, Goes-related, starts-related, duty-related}
 use Rattle.hand_proofs.proofs.Prelude.{Done-related, concludes, own-tables, proved-own-related, var, ptr-of, slice-of, _&_, sets, into}
 use Rattle.hand_proofs.proofs.Prelude.{into-last, Holding, empty, holds, envAt, stack, Blocks, leaves, while-test, Turned}
@@ -43,7 +43,8 @@ use Rattle.runner.proofs.events.run_events.Code.Mir.{locals, turn-1, t-
 
 -- ---- a turn counts one event
 
-same-count : {p q : Progress} {b b′ : Bench} {e : Event} {hs hs′ : List Hop} {book book′ : List ℕ} → EventRun p b e hs book q b′ hs′ book′
+same-count : {p q : Progress} {b b′ : Bench} {e : Event} {hs hs′ : List Hop} {book book′ : List ℕ}
+    → EventRun p b e hs book q b′ hs′ book′
     → q .count ≡ p .count
 unfolding afterSend afterArrive
 same-count (sent r s promise) = refl
@@ -53,7 +54,8 @@ same-count (arrived r a promise) = refl
 abbrev ahead : Progress → ℕ
 ahead p = 3000 - p .count
 
-nearer : (list : List ℕ) {p q r : Progress} {b b′ : Bench} {hs hs′ : List Hop} {book book′ out out′ : List ℕ} → isGoing (p .count) list ≡
+nearer : (list : List ℕ) {p q r : Progress} {b b′ : Bench} {hs hs′ : List Hop} {book book′ out out′ : List ℕ}
+    → isGoing (p .count) list ≡
     true
     → EventRun p b (eventAt (p .count) list) hs book q b′ hs′ book′ → Noted q out r out′ → ahead r < ahead p
 unfolding isGoing advanced
@@ -95,7 +97,8 @@ module _ {M : Type 1} (𝓤 : URA M) (H : Heap 𝓤) (A : Atoms 𝓤) (W : Given
       hs : List Hop
       book : List ℕ
       out : List ℕ
-      completes : {end : Progress} {last : Bench} {hs′ : List Hop} {book′ out′ : List ℕ} → EventsRun list p (bench (p .totals) ts ms ps gs)
+      completes : {end : Progress} {last : Bench} {hs′ : List Hop} {book′ out′ : List ℕ}
+          → EventsRun list p (bench (p .totals) ts ms ps gs)
           hs book out end last hs′ book′ out′
           → EventsRun list start (bench (start .totals) ts ms₀ ps₀ gs₀) hs₀ book₀ out₀ end last hs′ book′ out′
 
@@ -106,8 +109,8 @@ module _ {M : Type 1} (𝓤 : URA M) (H : Heap 𝓤) (A : Atoms 𝓤) (W : Given
     Nearer-wf = InvImage·wf (λ (i : Going). ahead (i .p)) (Nat·lt-wfRel .wf)
 
     -- a turn, and those after it
-    turn : (i : Going) (ms : List ℕ) (ps : List (List (List ℕ))) (gs : List ℕ) {q r : Progress} {hs : List Hop} {book out : List ℕ} →
-        isGoing (i .p .count) list ≡ true
+    turn : (i : Going) (ms : List ℕ) (ps : List (List (List ℕ))) (gs : List ℕ) {q r : Progress} {hs : List Hop} {book out : List ℕ}
+        → isGoing (i .p .count) list ≡ true
         → EventRun (i .p) (bench (i .p .totals) ts (i .ms) (i .ps) (i .gs)) (eventAt (i .p .count) list) (i .hs) (i .book) q
         (bench (q .totals) ts ms ps gs) hs book
         → Noted q (i .out) r out → {end : Progress} {last : Bench} {hs′ : List Hop} {book′ out′ : List ℕ}
@@ -130,7 +133,8 @@ module _ {M : Type 1} (𝓤 : URA M) (H : Heap 𝓤) (A : Atoms 𝓤) (W : Given
 
         -- what the locals hold where a turn begins or the function ends: the result, `p`, and the test
         abbrev vs : Holding → Going → Holding → List Holding
-        vs r i test = r ∷ holds (by-progress .word start) ∷ holds (slice I) ∷ holds (slice T) ∷ holds (slice J) ∷ holds (slice K) ∷ holds
+        vs r i test = r ∷ holds (by-progress .word start) ∷ holds (slice I) ∷ holds (slice T) ∷ holds (slice J) ∷
+            holds (slice K) ∷ holds
             (slice Q) ∷ holds (slice L) ∷
             holds (slice N) ∷ holds (slice O) ∷ holds (by-progress .word (i .p)) ∷ empty ∷ empty ∷ test ∷
             empty ∷ empty ∷ empty ∷ empty ∷ empty ∷ empty ∷ empty ∷ empty ∷ empty ∷ empty ∷ empty ∷ empty ∷ []
@@ -144,7 +148,8 @@ module _ {M : Type 1} (𝓤 : URA M) (H : Heap 𝓤) (A : Atoms 𝓤) (W : Given
         abbrev At : Going → List (Item 𝓤)
         At i = lists i ++ stack locals bs (vs empty i empty) []
 
-        turns : (i : Going) → Sq W (At i) (runs (𝓣 .C) (𝓣 .Λ) En turn-1 (anyQ (Turned 𝓤 H A 𝓣 En t-3 (Done-related self h) Nearer At i)))
+        turns : (i : Going) → Sq W (At i) (runs (𝓣 .C) (𝓣 .Λ) En turn-1
+            (anyQ (Turned 𝓤 H A 𝓣 En t-3 (Done-related self h) Nearer At i)))
         unfolding afterTurn
         turns i =
             let fm = fmOf 𝓤 H (W .laws) 𝓣 in let p : Progress = i .p in let e : Event = eventAt (p .count) list in
@@ -216,21 +221,36 @@ module _ {M : Type 1} (𝓤 : URA M) (H : Heap 𝓤) (A : Atoms 𝓤) (W : Given
           starts-related W self 𝓣 code.function h (suited W (self .passes) h fit rooms) (λ bs.
           sets ! (of-opd ! (var ! 56 refl)) (init ! 38 refl (stored W by-progress start (fit .0) .0)) $
           first ! $ blocks ! $ loops ! 𝓣 Nearer Nearer-wf (At bs) (turns bs)
-          (record { p = start; is = fit .0; ms = ms₀; ps = ps₀; gs = gs₀; hs = hs₀; book = book₀; out = out₀; completes = λ run. run }))
+          (record {
+            p = start;
+            is = fit .0;
+            ms = ms₀;
+            ps = ps₀;
+            gs = gs₀;
+            hs = hs₀;
+            book = book₀;
+            out = out₀;
+            completes = λ run. run;
+          }))
 
 pub run-events-spec : {M : Type 1} → stated.statement M
 unfolding code.routine tablesOf
 run-events-spec 𝓤 H 𝓜 𝓖 𝓡 =
     let A = 𝓖 .A in
-    proved-own-related 𝓤 H 𝓜 𝓖 𝓡 code.env (run-events-callee 𝓤 H A) tt (λ κs qs. refl) (λ κs qs a g. factI 𝓤 (Unit {0}) _ tt)
+    proved-own-related 𝓤 H 𝓜 𝓖 𝓡 code.env (run-events-callee 𝓤 H A) tt (λ κs qs. refl)
+    (λ κs qs a g. factI 𝓤 (Unit {0}) _ tt)
     (λ κs qs a g r ws _ said. factI 𝓤 _ (emp 𝓤) said)
     #run-events code.function (code.unfolded 𝓤 H 𝓜 𝓡) (λ h fit rooms _.
     let l = h .1 in let l2 = l .1 .1 in let l4 = l2 .1 .1 in let l6 = l4 .1 .1 in
-    walk 𝓤 H A (givenOf 𝓤 H 𝓜 𝓖) (h .0) (l .0 .0) (l .0 .1) (l .1 .0 .0) (l .1 .0 .1) (l2 .0 .0) (l2 .0 .1) (l2 .1 .0 .0) (l2 .1 .0 .1)
+    walk 𝓤 H A (givenOf 𝓤 H 𝓜 𝓖) (h .0) (l .0 .0) (l .0 .1) (l .1 .0 .0) (l .1 .0 .1) (l2 .0 .0) (l2 .0 .1)
+    (l2 .1 .0 .0) (l2 .1 .0 .1)
     (l4 .0 .0) (l4 .0 .1) (l4 .1 .0 .0) (l4 .1 .0 .1) (l6 .0 .0) (l6 .0 .1) (l6 .1 .0 .0) (l6 .1 .0 .1) fit rooms
     (own-tables 𝓤 H 𝓜 𝓖 𝓡 code.env) record {
-      of-is-going = cited 𝓤 H _ 𝓜 𝓡 code.env is-going-def.name _ code.calls-runner·events·is-going (is-going-thm.met 𝓤 H 𝓜 𝓖 𝓡);
-      of-event-at = cited 𝓤 H _ 𝓜 𝓡 code.env event-at-def.name _ code.calls-runner·events·event-at (event-at-thm.met 𝓤 H 𝓜 𝓖 𝓡);
-      of-run-event = cited 𝓤 H _ 𝓜 𝓡 code.env run-event-def.name _ code.calls-runner·events·run-event (run-event-thm.met 𝓤 H 𝓜 𝓖 𝓡);
+      of-is-going = cited 𝓤 H _ 𝓜 𝓡 code.env is-going-def.name _ code.calls-runner·events·is-going
+          (is-going-thm.met 𝓤 H 𝓜 𝓖 𝓡);
+      of-event-at = cited 𝓤 H _ 𝓜 𝓡 code.env event-at-def.name _ code.calls-runner·events·event-at
+          (event-at-thm.met 𝓤 H 𝓜 𝓖 𝓡);
+      of-run-event = cited 𝓤 H _ 𝓜 𝓡 code.env run-event-def.name _ code.calls-runner·events·run-event
+          (run-event-thm.met 𝓤 H 𝓜 𝓖 𝓡);
       of-noted = cited 𝓤 H _ 𝓜 𝓡 code.env noted-def.name _ code.calls-runner·events·noted (noted-thm.met 𝓤 H 𝓜 𝓖 𝓡);
     })

@@ -16,7 +16,8 @@ use Rattle.runner.proofs.reading.reply_count.Tie as tie
 enum-known-reply : tie.Need-enum-known-reply
 enum-known-reply c = search needs
 
-not-read : (r : ReadReply) → OneOf (1 ∷ 2 ∷ 3 ∷ 4 ∷ 5 ∷ 6 ∷ 7 ∷ 8 ∷ 9 ∷ []) (tagOf the-type r) → 0 ≡ countOf (readAnswer r)
+not-read : (r : ReadReply) → OneOf (1 ∷ 2 ∷ 3 ∷ 4 ∷ 5 ∷ 6 ∷ 7 ∷ 8 ∷ 9 ∷ []) (tagOf the-type r)
+    → 0 ≡ countOf (readAnswer r)
 unfolding countOf readAnswer
 not-read (Read n line) k = absurd (miss (1 ∷ 2 ∷ 3 ∷ 4 ∷ 5 ∷ 6 ∷ 7 ∷ 8 ∷ 9 ∷ []) 0 tt k)
 not-read ListTooShort k = refl

@@ -18,7 +18,8 @@ use Rattle.runner.proofs.results.put_logs.Tie as tie
 abbrev Inv-loop : tie.InvT-loop
 Inv-loop tables gauges book out₀ at units next₀ u₀ out next u = (length out ≡ length out₀) ×
     ((t : Totals) (ms : List ℕ) (ps : List (List (List ℕ)))
-    → units ≤ 32 → (logs : ℕ → List ℕ) → HandsBack (bench t tables ms ps gauges) book logs → Remains (ended (drop u (logLines units logs)))
+    → units ≤ 32 → (logs : ℕ → List ℕ) → HandsBack (bench t tables ms ps gauges) book logs
+    → Remains (ended (drop u (logLines units logs)))
     (ended (logLines units logs)) at out₀ next out)
 
 abbrev μ-loop : tie.MeasureT-loop

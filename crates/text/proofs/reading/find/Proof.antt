@@ -24,7 +24,11 @@ shared-slice-read-if1 c = search needs
 returns : tie.Need-returns Inv-loop μ-loop
 returns c =
     let at = c .before .before .before .loop .at in
-    omega (arith, place-here _ (c .before .before .before .before .args .text .now) at (c .before .before .loop-test .taken) (c .if1 .taken))
+    omega (
+      arith,
+      place-here _ (c .before .before .before .before .args .text .now) at
+          (c .before .before .loop-test .taken) (c .if1 .taken),
+    )
 
 add-at : tie.Need-add-at Inv-loop μ-loop
 add-at c = search needs

@@ -52,7 +52,8 @@ returns-3 c =
     let met = c .before .before in
     let text = met .before .before .before .before .args .text .now in
     let one : getD text 0 0 ≡ 48 → length text ≤ 1 = ⊎-elim (λ w e. w .1 .left) (λ w e. absurd (w .left e)) (met .if2 .came) in
-    sym (number-digits text (omega arith) one ∙ sym (c .before .loop .inv .1) ∙ digits-end _ _ (c .before .loop .at) (c .loop-test .left))
+    sym (number-digits text (omega arith) one ∙ sym (c .before .loop .inv .1)
+    ∙ digits-end _ _ (c .before .loop .at) (c .loop-test .left))
 
 pub number-spec : {M : Type 1} → statement M
 number-spec =

@@ -1,9 +1,9 @@
 /* Scrollcairn for C and C++: calls that are proved in Rattle (crates/scrollcairn_c; docs/CALLS.md). Link libscrollcairn_c.a.
  *
- * Every call ends, touches no memory but what it is lent, and is safe for every content of it. A pointer with a length behind it is a list
- * of so many numbers; the list may be empty, and no list that a call writes to may overlap another. Each call answers three numbers:
- * answer[0] is 0, or the number of a refusal (the table in README.md); answer[1] and answer[2] are as told at the call, 0 where nothing is
- * told. A refused call writes its answer and nothing else. */
+ * Every call ends, touches no memory but its own stack and what it is lent, and is safe for every content of it. A pointer with a length
+ * behind it is a list of so many numbers; the list may be empty, and no list that a call writes to may overlap another. Each call
+ * answers three numbers: answer[0] is 0, or the number of a refusal (the table in README.md); answer[1] and answer[2] are as told at the
+ * call, 0 where nothing is told. A refused call writes its answer and nothing else. */
 #ifndef SCROLLCAIRN_H
 #define SCROLLCAIRN_H
 
@@ -51,7 +51,8 @@ void scrollcairn_read(const uint8_t *file, size_t file_length, uint16_t *events,
                       uint32_t groups[24], uint8_t parents[32], uint16_t counts[4], uint64_t answer[3]);
 
 /* Writes the bench file that scrollcairn_read took apart, at the start of `out`, of at least SCROLLCAIRN_FILE bytes.
- * Answers how many bytes. Refused: 1. */
+ * Of `counts` the first two are taken as their lowest eight bits, and a third other than 0 is `build`. Answers how many bytes.
+ * Refused: 1. */
 void scrollcairn_write(const uint32_t groups[24], const uint8_t parents[32], const uint16_t counts[4],
                        const uint16_t *events, size_t events_length, uint8_t *out, size_t out_length, uint64_t answer[3]);
 
@@ -70,7 +71,7 @@ void scrollcairn_write(const uint32_t groups[24], const uint8_t parents[32], con
  *   2  repeat     3  held         6  rest: 1 for yes, 0 for no
  *
  * `hops` gets five numbers for each of the 2,008 records, as they are left: sender, receiver, number in sequence, message, state (0 out,
- * 1 held, 2 taken). The last eight, which no call uses, held 9, 9, 9, 9, 9 before. `bench`, the one list of 32-bit numbers, gets the hops
+ * 1 held, 2 taken). The last eight, which no call uses, held 9, 9, 9, 9, 9 before. `bench`, a list of 32-bit numbers, gets the hops
  * made, the hops taken, the messages sent, the sum of their way sizes; the length of each unit's log (32); the sources, groups and words
  * of the messages (200 each, 0 past the messages sent); by sender and receiver, the hops made (1,024), and the hops taken (1,024). `book`
  * is the log book itself.

@@ -1,4 +1,4 @@
-// The records that the rules of the bench (specs/) and the code of the bench share.
+// The records of the rules of the bench (specs/). `Hop` is that of its code too.
 
 // A hop: one copy of a message on the cable from a sender to a receiver. The state is 0 out, 1 held, 2 taken.
 pub struct Hop {

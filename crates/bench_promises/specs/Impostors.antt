@@ -4,8 +4,8 @@ use mathlib.Core.Bool.{Bool, cond}
 use mathlib.Core.List.{[], _∷_, _++_}
 use lib.ListN.{getD}
 use Rattle.sets.specs.Sets.{member}
-use Rattle.model.specs.Network.{Plan, groupOf, Network, network, setState}
-use Rattle.model.specs.Rules.{Answer, Refused, Sent, Repeat, Held, Taken, Outcome, outcome, answerOf, leftOf, send, arrive}
+use Rattle.model.specs.Network.{Plan, groupOf, Network, network}
+use Rattle.model.specs.Rules.{Answer, Refused, Sent, Repeat, Held, Taken, Outcome, outcome, answerOf, leftOf, send}
 use Rattle.layout.specs.Tables.{tabulate}
 
 -- message m at the end of the log of each unit that passes a test
@@ -22,10 +22,3 @@ logIfSent test (Taken n) W = W
 
 unfoldable pub sendLogging : Plan → (source group word : ℕ) → Network → Outcome
 sendLogging P s g w W = let o = send P s g w W in outcome (answerOf o) (logIfSent (member (groupOf P g)) (answerOf o) (leftOf o))
-
--- the answer of an arrival, and the hop taken, but nothing logged and no hop made
-unfoldable pub takenOnly : ℕ → Network → Network
-takenOnly j (network ms hs ls) = network ms (setState j 2 hs) ls
-
-unfoldable pub arrivePretending : Plan → ℕ → Network → Outcome
-arrivePretending P j W = outcome (answerOf (arrive P j W)) (takenOnly j W)

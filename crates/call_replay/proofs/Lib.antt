@@ -1,4 +1,3 @@
-pub mod Verdicts
 pub mod Threes
 pub mod Puts
 pub mod Records

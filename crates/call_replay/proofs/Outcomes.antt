@@ -28,13 +28,14 @@ use Rattle.bench_promises.specs.State.{joined, hopRecords, logBook, pairTable, 
 use Rattle.bench_promises.specs.Promises.{after}
 use Rattle.bench_promises.proofs.Books.{joined-length}
 use Rattle.bench_promises.proofs.Reached.{hop-records-length, log-book-length, within}
-use Rattle.call_replay.specs.Answers.{numbersOf, refusedFor, unlessRefused}
-use Rattle.call_replay.specs.declared.answers.Answer.{Answer}
+use Rattle.c_answers.specs.Answers.{numbersOf, refusedFor, unlessRefused}
+use Rattle.c_answers.specs.declared.Answer.{Answer}
 use Rattle.call_replay.specs.declared.benches.Ended.{Ended}
 use Rattle.call_replay.specs.Rules.{Given, Replied, replied, runFrom, run, requestsOf, requests, resultsShort, freshShort}
 use Rattle.call_replay.specs.Rules.{forestRefused, refusalOf, planOf, over, ran, repliesOf, stateOf, hopNumbers, nines, lastRecords}
 use Rattle.call_replay.specs.Rules.{benchNumbers, CallsPromise}
-use Rattle.call_replay.specs.Steps.{rowsOf, benchOut, begunWith, allNines, ListRun, listsShort, lentShort}
+use Rattle.call_replay.specs.Claims.{rowsOf, benchOut}
+use Rattle.call_replay.specs.Steps.{begunWith, allNines, ListRun, listsShort, lentShort}
 use Rattle.call_replay.proofs.States.{replaced, At}
 use Rattle.call_replay.proofs.Runs.{requests-length, Finished, calls-run}
 

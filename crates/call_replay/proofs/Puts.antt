@@ -10,7 +10,7 @@ use Rattle.text.specs.Writing.{Written}
 use Rattle.text.proofs.Written.{written-append}
 use Rattle.bench_store.specs.Values.{rowIn}
 use Rattle.bench_promises.specs.State.{joined}
-use Rattle.call_replay.specs.Steps.{rowsOf}
+use Rattle.call_replay.specs.Claims.{rowsOf}
 use Rattle.call_replay.proofs.Threes.{written-is}
 
 -- a part of as many as are asked for, or all there are, is as long as it says

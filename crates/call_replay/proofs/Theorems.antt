@@ -35,12 +35,12 @@ use Rattle.call_replay.specs.Rules.{Request, Send, Arrive, Log, Length, 
 use Rattle.call_replay.specs.Rules.{Replied, replied, answeredAs, reply, followed, runFrom, run, hopNumbers, nines, lastRecords}
 use Rattle.call_replay.specs.Rules.{Given, requests, resultsShort, freshShort, forestRefused, benchNumbers, refusalOf, planOf, over}
 use Rattle.call_replay.specs.Rules.{ran, repliesOf, stateOf, CallsPromise}
-use Rattle.call_replay.specs.Answers.{numbersOf, refusedFor, unlessRefused}
-use Rattle.call_replay.specs.declared.answers.Answer.{Answer as Told}
-use Rattle.call_replay.specs.Steps.{benchOut}
+use Rattle.c_answers.specs.Answers.{numbersOf, refusedFor, unlessRefused}
+use Rattle.c_answers.specs.declared.Answer.{Answer as Told}
 use Rattle.call_replay.proofs.Outcomes.{bench-out, bench-length}
 use Rattle.call_replay.proofs.Runs.{answer-length, length-length, rest-length, answered-is}
-use Rattle.call_replay.specs.Claims.{answerIn, firstAnswer, answersIn, recordsIn, logIn, restIn, ReplayChain, ReplayDemand3}
+use Rattle.call_replay.specs.Claims.{answerIn, firstAnswer, answersIn, recordsIn, logIn, restIn, benchOut}
+use Rattle.call_replay.specs.Claims.{ReplayChain, ReplayDemand3}
 
 -- ---- the replies, read
 

@@ -10,11 +10,12 @@ use Rattle.model.specs.declared.Hop.{Hop}
 use Rattle.model.specs.Rules.{Answer, Refused, Sent, Repeat, Held, Taken, allTaken}
 use Rattle.model.specs.Calls.{Send as SendCall, Arrive as ArriveCall, Answered, answered}
 use Rattle.model.specs.Demand3.{Planned, Demand3}
-use Rattle.bench_promises.specs.State.{Bench}
+use Rattle.bench_store.specs.Values.{rowIn}
+use Rattle.bench_promises.specs.declared.Totals.{Totals}
+use Rattle.bench_promises.specs.State.{Bench, joined}
 use Rattle.bench_promises.specs.Promises.{LogPromise}
 use Rattle.bench_promises.specs.Chains.{Called}
 use Rattle.call_replay.specs.Rules.{Request, Send, Arrive, Log, Length, Rest, Given, requests, planOf}
-use Rattle.call_replay.specs.Steps.{benchOut}
 
 -- ---- what a caller reads
 
@@ -53,6 +54,18 @@ logIn bench book u = cond (ltb u 32) (take (getD bench (4 + u) 0) (drop (u * 200
 -- every hop made, the first of the totals, is taken
 unfoldable pub restIn : (bench hops : List ℕ) → Bool
 restIn bench hops = allTaken (recordsIn (getD bench 0 0) hops)
+
+-- ---- a bench as its numbers
+
+abbrev pub totalNumbers : Totals → List ℕ
+totalNumbers t = t .made ∷ t .taken ∷ t .sent ∷ t .routed ∷ []
+
+-- the first n rows of array k
+unfoldable pub rowsOf : ℕ → (pairs : List (List (List ℕ))) → (k : ℕ) → List ℕ
+rowsOf n pairs k = joined n (rowIn pairs k)
+
+unfoldable pub benchOut : Bench → List ℕ
+benchOut b = totalNumbers (b .totals) ++ (b .gauges ++ (b .messages ++ (rowsOf 32 (b .pairs) 0 ++ rowsOf 32 (b .pairs) 1)))
 
 -- ---- the claims
 

@@ -1,4 +1,3 @@
-pub mod Answers
 pub mod Rules
 pub mod Steps
 pub mod Claims

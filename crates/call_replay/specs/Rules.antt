@@ -14,8 +14,8 @@ use Rattle.model.specs.Calls.{Send as SendCall, Arrive as ArriveCall, call, log
 use Rattle.bench_promises.specs.Replies.{LengthAnswer, LengthRefused, Length as LengthIs}
 use Rattle.bench_promises.specs.State.{joined, hopRecords, logBook, messageColumn}
 use Rattle.bench_promises.specs.Promises.{handedBack, lengthAnswer}
-use Rattle.call_replay.specs.Answers.{numbersOf, refusedFor, unlessRefused}
-use Rattle.call_replay.specs.declared.answers.Answer.{Answer}
+use Rattle.c_answers.specs.Answers.{numbersOf, refusedFor, unlessRefused}
+use Rattle.c_answers.specs.declared.Answer.{Answer}
 
 -- ---- the calls
 

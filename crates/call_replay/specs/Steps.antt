@@ -6,13 +6,10 @@ use mathlib.Core.List.{List, [], _∷_, _++_}
 use lib.ListN.{length, getD, take, drop, replicate}
 use lib.Dec.{ltb, eqb}
 use Rattle.text.specs.Writing.{Written}
-use Rattle.bench_store.specs.Values.{rowIn}
 use Rattle.model.specs.declared.Hop.{Hop}
-use Rattle.bench_promises.specs.declared.Totals.{Totals}
 use Rattle.bench_promises.specs.declared.replies.RestReply.{RestReply}
 use Rattle.bench_promises.specs.declared.replies.LogReply.{LogReply}
 use Rattle.bench_promises.specs.Replies.{sendAnswer, arriveAnswer, restAnswer, logAnswer}
-use Rattle.bench_promises.specs.State.{Bench as BenchLists, joined}
 use Rattle.bench_promises.specs.Promises.{FreshPromise, SendPromise, ArrivePromise, RestPromise, LogPromise, LengthPromise}
 use Rattle.bench.specs.declared.Bench.{Bench}
 use Rattle.bench.specs.declared.Fresh.{Fresh}
@@ -25,18 +22,6 @@ use Rattle.call_replay.specs.declared.requests.Progress.{Progress}
 use Rattle.call_replay.specs.declared.replies.Reply.{Reply}
 use Rattle.call_replay.specs.declared.replies.Done.{Done}
 use Rattle.call_replay.specs.declared.benches.Ended.{Ended}
-
--- ---- numbers put
-
-abbrev pub totalNumbers : Totals → List ℕ
-totalNumbers t = t .made ∷ t .taken ∷ t .sent ∷ t .routed ∷ []
-
--- the first n rows of array k
-unfoldable pub rowsOf : ℕ → (pairs : List (List (List ℕ))) → (k : ℕ) → List ℕ
-rowsOf n pairs k = joined n (rowIn pairs k)
-
-unfoldable pub benchOut : BenchLists → List ℕ
-benchOut b = totalNumbers (b .totals) ++ (b .gauges ++ (b .messages ++ (rowsOf 32 (b .pairs) 0 ++ rowsOf 32 (b .pairs) 1)))
 
 -- ---- the calls of a list
 

@@ -1,12 +1,11 @@
 // A list of calls, run on a fresh bench; what they answer and leave, as numbers: of 32 bits where they tell the bench, else of 16.
-pub mod answers;
 mod benches;
 mod replies;
 mod requests;
 mod writing;
 
-pub use answers::Answer;
 use bench_store::Limits;
+use c_answers::Answer;
 ghost use mathlib.Core.Path.{_≡_};
 ghost use Rattle.call_replay.specs.Rules.{given, CallsPromise};
 ghost use Rattle.call_replay.specs.Steps.{listsShort, lentShort};
@@ -77,16 +76,16 @@ pub fn run(
 {
     let number = calls.len() / Sizes::CALL;
     if is_short(hops.len(), bench.len(), replies.len(), number) {
-        return answers::told(1, 1, 0);
+        return c_answers::told(1, 1, 0);
     }
     let forest = forest::check(units, groups, count, parents);
     let verdict = forest.verdict;
-    let refused = answers::of_verdict(verdict);
+    let refused = c_answers::of_verdict(verdict);
     if refused.refusal != 0 {
         return refused;
     }
     if is_fresh_short(fresh_hops, fresh_book, book.len()) {
-        return answers::told(1, 0, 0);
+        return c_answers::told(1, 0, 0);
     }
     let drawn = forest.parents;
     let end = benches::run_list(
@@ -102,5 +101,5 @@ pub fn run(
         hops,
     );
     writing::put_bench(bench, end.bench);
-    answers::told(0, number, end.numbers)
+    c_answers::told(0, number, end.numbers)
 }

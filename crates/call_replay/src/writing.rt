@@ -9,7 +9,7 @@ ghost use mathlib.Core.List.{[], _∷_};
 ghost use Rattle.text.specs.Writing.{Written};
 ghost use Rattle.bench.specs.Lists.{listsOf};
 ghost use Rattle.call_replay.specs.Rules.{hopNumbers};
-ghost use Rattle.call_replay.specs.Steps.{totalNumbers, rowsOf, benchOut};
+ghost use Rattle.call_replay.specs.Claims.{totalNumbers, rowsOf, benchOut};
 
 // ---- into a list of 16-bit numbers
 

@@ -11,8 +11,8 @@ use Rattle.benchfile.specs.declared.Content.{Content}
 use Rattle.benchfile.specs.declared.ReadReply.{ReadReply}
 use Rattle.benchfile.specs.declared.ReadReply.the-variants.{Read, ListTooShort, FileTooLong, NoLine, BadValue, BadCount}
 use Rattle.benchfile.specs.declared.ReadReply.the-variants.{NoSuchUnit, NotRising, WrongLength, TooManyEvents}
-use Rattle.call_replay.specs.Answers.{numbersOf, refusedFor}
-use Rattle.call_replay.specs.declared.answers.Answer.{Answer}
+use Rattle.c_answers.specs.Answers.{numbersOf, refusedFor}
+use Rattle.c_answers.specs.declared.Answer.{Answer}
 use Rattle.scrollcairn_c.specs.Exported.{toldBy, storedOf}
 
 -- the first of the three numbers

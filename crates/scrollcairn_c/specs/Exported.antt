@@ -13,8 +13,8 @@ use Rattle.benchfile.specs.Calls.{Answer as Reply, TurnedAway, ReadNumbers, Wro
 use Rattle.benchfile.specs.Calls.{written, writeShort, writeSays, writeLeaves}
 use Rattle.benchfile.specs.declared.Content.{Content}
 use Rattle.runner.specs.Printed.{printed, result, takenBy, outputShort}
-use Rattle.call_replay.specs.Answers.{numbersOf, refusedFor, unlessRefused}
-use Rattle.call_replay.specs.declared.answers.Answer.{Answer}
+use Rattle.c_answers.specs.Answers.{numbersOf, refusedFor, unlessRefused}
+use Rattle.c_answers.specs.declared.Answer.{Answer}
 use Rattle.call_replay.specs.Rules.{Given, CallsPromise}
 
 -- the three numbers of an answer: a refusal; what was read; or what was written, and a third number

@@ -1,7 +1,7 @@
 // What the calls answer, as three numbers.
 use benchfile::ReadReply;
 use benchfile::WriteReply;
-use call_replay::Answer;
+use c_answers::Answer;
 use runner::RunAnswer;
 use runner::RunReply;
 ghost use mathlib.Core.Path.{_≡_};
@@ -9,7 +9,7 @@ ghost use mathlib.Core.List.{[], _∷_};
 ghost use Rattle.forest.specs.Calls.{refusal as refusalOf};
 ghost use Rattle.benchfile.specs.Calls.{readAnswer, writeAnswer};
 ghost use Rattle.runner.specs.Printed.{runAnswer};
-ghost use Rattle.call_replay.specs.Answers.{numbersOf, refusedFor, unlessRefused};
+ghost use Rattle.c_answers.specs.Answers.{numbersOf, refusedFor, unlessRefused};
 ghost use Rattle.scrollcairn_c.specs.Exported.{toldBy};
 
 // Stores an answer.
@@ -95,7 +95,7 @@ pub fn put_forest(laid: forest::Answer, parents: &mut [u8; 32], answer: &mut [u6
         × (now (answer .exit) ≡ refusedFor (refusalOf (laid .verdict))) ⌝ }
 {
     let verdict = laid.verdict;
-    let told = call_replay::answers::of_verdict(verdict);
+    let told = c_answers::of_verdict(verdict);
     if told.refusal != 0 {
         put(told, answer);
         return;

@@ -1,6 +1,6 @@
 -- One of the three refusals, or all calls were run.
 use mathlib.Core.Path.{sym, _∙_}
-use Rattle.call_replay.proofs.Verdicts.{accepted}
+use Rattle.c_answers.proofs.Verdicts.{accepted}
 use Rattle.call_replay.proofs.Outcomes.{short-refused, forest-refused, fresh-refused, ran-on}
 use borrow.Author.Needs.{needs}
 use Rattle.call_replay.proofs.run.Statement.{statement}

@@ -3,7 +3,7 @@ use mathlib.Core.Path.{_≡_, sym, ap, _∙_}
 use mathlib.Core.List.{List}
 use Prim.Native.Nat.{ℕ}
 use borrow.Author.Needs.{needs}
-use Rattle.call_replay.specs.Answers.{refusedFor, unlessRefused}
+use Rattle.c_answers.specs.Answers.{refusedFor, unlessRefused}
 use Rattle.scrollcairn_c.proofs.scrollcairn_check.Statement.{statement}
 use Rattle.scrollcairn_c.proofs.scrollcairn_check.Tie as tie
 

@@ -1,7 +1,7 @@
 -- One after the other.
 use Rattle.text.proofs.Written.{written-append}
 use Rattle.bench.specs.Lists.{listsOf}
-use Rattle.call_replay.specs.Steps.{benchOut}
+use Rattle.call_replay.specs.Claims.{benchOut}
 use borrow.Author.Needs.{needs}
 use Rattle.call_replay.proofs.writing.put_bench.Statement.{statement}
 use Rattle.call_replay.proofs.writing.put_bench.Tie as tie

@@ -6,7 +6,7 @@ use borrow.Author.Needs.{needs}
 use Rattle.text.specs.Writing.{Written}
 use Rattle.text.proofs.Written.{written-none, written-length}
 use Rattle.bench_promises.specs.State.{joined}
-use Rattle.call_replay.specs.Steps.{rowsOf}
+use Rattle.call_replay.specs.Claims.{rowsOf}
 use Rattle.call_replay.proofs.Threes.{written-is}
 use Rattle.call_replay.proofs.Puts.{rows-more}
 use Rattle.call_replay.proofs.writing.put_pairs.Statement.{statement}

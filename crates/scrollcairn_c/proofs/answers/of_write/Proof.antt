@@ -1,7 +1,7 @@
 -- In each case the rule computes the numbers.
 use borrow.Author.Needs.{needs}
 use Rattle.benchfile.specs.Calls.{writeAnswer}
-use Rattle.call_replay.specs.Answers.{numbersOf, refusedFor}
+use Rattle.c_answers.specs.Answers.{numbersOf, refusedFor}
 use Rattle.scrollcairn_c.specs.Exported.{toldBy}
 use Rattle.scrollcairn_c.proofs.answers.of_write.Statement.{statement}
 use Rattle.scrollcairn_c.proofs.answers.of_write.Tie as tie

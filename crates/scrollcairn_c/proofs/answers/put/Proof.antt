@@ -1,6 +1,6 @@
 -- The array is the three numbers.
 use mathlib.Core.Path.{refl}
-use Rattle.call_replay.specs.Answers.{numbersOf}
+use Rattle.c_answers.specs.Answers.{numbersOf}
 use Rattle.scrollcairn_c.proofs.answers.put.Statement.{statement}
 use Rattle.scrollcairn_c.proofs.answers.put.Tie as tie
 

@@ -1,7 +1,7 @@
 -- The answer tells the refusal, and so whether the parents are stored.
 use mathlib.Core.Path.{_∙_}
 use borrow.Author.Needs.{needs}
-use Rattle.call_replay.proofs.Verdicts.{accepted-left, refused-left}
+use Rattle.c_answers.proofs.Verdicts.{accepted-left, refused-left}
 use Rattle.scrollcairn_c.proofs.answers.put_forest.Statement.{statement}
 use Rattle.scrollcairn_c.proofs.answers.put_forest.Tie as tie
 

@@ -1,6 +1,6 @@
 -- The three numbers are those given.
 use mathlib.Core.Path.{refl}
-use Rattle.call_replay.specs.Answers.{numbersOf}
+use Rattle.c_answers.specs.Answers.{numbersOf}
 use Rattle.scrollcairn_c.proofs.answers.turned_away.Statement.{statement}
 use Rattle.scrollcairn_c.proofs.answers.turned_away.Tie as tie
 

@@ -1,6 +1,5 @@
--- What document 01's wrong turns get wrong, and refusals in checking order, all by computation from the rules. A group is written as its
--- number:
--- {0,3} is 9. The table of P1 to P10 is in the crate worked_examples.
+-- What document 01's wrong turns of the bench get wrong, and refusals in checking order, all by computation from the rules. A group is
+-- written as its number: {0,3} is 9. The table of P1 to P10 is in the crate worked_examples.
 use mathlib.Core.Path.{_≡_, refl}
 use mathlib.Core.Bool.{false}
 use Prim.Native.Nat.{ℕ}
@@ -70,7 +69,9 @@ two = sends 0 0 7 ∷ sends 0 0 8 ∷ arrives 1 ∷ arrives 1 ∷ arrives 0 ∷ 
 pub record Benches : Type 0 where
   -- a message is recorded with its word
   pub word : messagesOf (networkOf (run bench-C (sends 3 0 500 ∷ []))) ≡ message 3 0 500 ∷ []
-  -- unit 2 carries message 1 and does not log it
+  -- message 1, to units 0 and 3, goes on through the carrier, unit 2
+  pub carrier-hop : hopsOf (networkOf (run bench-C (sends 3 0 500 ∷ arrives 0 ∷ []))) ≡ hop 3 0 1 1 2 ∷ hop 0 2 1 1 0 ∷ []
+  -- which does not log it
   pub carrier-log : log bench-C 2 6400 (networkOf (run bench-C (sends 3 0 500 ∷ arrives 0 ∷ arrives 1 ∷ []))) ≡ Log []
   -- sequence numbers count by pair: one source, two receivers
   pub by-pair : map (λ h. h .sequence) (hopsOf (networkOf (run bench-C (sends 3 0 1 ∷ sends 3 2 2 ∷ sends 3 0 3 ∷ []))))
@@ -103,6 +104,7 @@ unfolding onesIn trailingZeros member single union intersection including includ
     log rest answered-with answers hop message messagesOf
 benches = record {
   word = refl;
+  carrier-hop = refl;
   carrier-log = refl;
   by-pair = refl;
   order-answers = refl;

@@ -10,7 +10,7 @@ use lib.Count.{onesIn, trailingZeros}
 unfoldable pub member : ℕ → ℕ → Bool
 member s u = eqb (s / 2 ^ u % 2) 1
 
--- the set of u alone; no number from 32 on is in any set
+-- the set of u alone; from 32 on it is empty, so that no such number is ever put into a set
 unfoldable pub single : ℕ → ℕ
 single u = cond (ltb u 32) (2 ^ u) 0
 

@@ -35,7 +35,8 @@ use Rattle.runner.specs.Printed.{refusedEvents, logLines, runLines, resultLines
 use Rattle.runner.specs.declared.RunAnswer.{RunAnswer}
 use Rattle.runner.proofs.Theorems.{run-bytes}
 use Rattle.worked_examples.specs.Table.{Outcome, Refusal, Parents, Prints, Bench, Built, Drawn, benchRefusal, benchPlan}
-use Rattle.worked_examples.specs.Table.{unlessRefused, routeOutcome, runOutcome, outcome, set, filled, groups, root as rootParent}
+use Rattle.worked_examples.specs.Table.{unlessRefused, routeOutcome, runOutcome, outcome, unitSet, filled, groups}
+use Rattle.worked_examples.specs.Table.{root as rootParent}
 use Rattle.worked_examples.specs.Table.{drawing, forest, sends, arrives, message, out, taken, bytes, lines, benchP1, benchP2}
 use Rattle.worked_examples.specs.Table.{groupsC, builtC, drawnC, benchP5, benchP6, benchP7, callsP7, callsP8, hopsP8, logsP8}
 use Rattle.worked_examples.specs.Table.{fileP8, sendP7, noLogs, printsP8, callsP9, fileP10, printsP10, table, stated, computed}
@@ -55,7 +56,7 @@ unfolding onesIn trailingZeros member single below union intersection difference
     parentsIn parentsFault isBuild parentsTable badSend eventFault eventIn next step finish steps readFile ended contentOf refusedKey logKey
     hopsKey restKey answerWord refusedLine messageTexts logLine hopsLine restLine forestRefusal forestParents planOf callFor ranOn onForest
     resultOf result refusedAs refusedEvents logLines runLines resultLines printed benchRefusal benchPlan unlessRefused routeOutcome
-    runOutcome outcome set filled groups rootParent drawing forest sends arrives callOf message out taken bytes lines
+    runOutcome outcome unitSet filled groups rootParent drawing forest sends arrives callOf message out taken bytes lines
     benchP1 benchP2 groupsC builtC
     drawnC benchP5 benchP6 benchP7 sendP7 callsP7 callsP8 hopsP8 logsP8 fileP8 printsP8 callsP9 noLogs fileP10
     printsP10 table stated computed

@@ -72,9 +72,9 @@ outcome (File file) = Prints (printed file)
 -- ---- what entries are written with
 
 -- a set of units, each given once: unit u counts 2 ^ u
-unfoldable pub set : List ℕ → ℕ
-set [] = 0
-set (u ∷ us) = 2 ^ u + set us
+unfoldable pub unitSet : List ℕ → ℕ
+unitSet [] = 0
+unitSet (u ∷ us) = 2 ^ u + unitSet us
 
 -- a list filled up to so many places
 unfoldable pub filled : (places filler : ℕ) → List ℕ → List ℕ
@@ -82,7 +82,7 @@ filled places filler xs = xs ++ replicate (places - length xs) filler
 
 -- groups, each given by its units, in 24 places. A place past them holds all of 32 units, so reading it would refuse the groups (6).
 unfoldable pub groups : List (List ℕ) → List ℕ
-groups gs = filled 24 (2 ^ 32 - 1) (map set gs)
+groups gs = filled 24 (2 ^ 32 - 1) (map unitSet gs)
 
 -- a root's parent
 unfoldable pub root : ℕ
@@ -218,9 +218,9 @@ table =
     entry 1 (ForestOf benchP1) (forest (1 ∷ root ∷ 1 ∷ 1 ∷ [])) ∷
     entry 2 (ForestOf benchP2) (forest (1 ∷ root ∷ 1 ∷ 2 ∷ [])) ∷
     entry 3 (ForestOf builtC) (forest (root ∷ 0 ∷ 1 ∷ 2 ∷ [])) ∷
-    entry 3 (RouteOf builtC 0) (Route (set (0 ∷ 1 ∷ 2 ∷ 3 ∷ [])) 4 (set (1 ∷ 2 ∷ []))) ∷
+    entry 3 (RouteOf builtC 0) (Route (unitSet (0 ∷ 1 ∷ 2 ∷ 3 ∷ [])) 4 (unitSet (1 ∷ 2 ∷ []))) ∷
     entry 4 (ForestOf drawnC) (forest (root ∷ 2 ∷ 0 ∷ 2 ∷ [])) ∷
-    entry 4 (RouteOf drawnC 0) (Route (set (0 ∷ 2 ∷ 3 ∷ [])) 3 (set (2 ∷ []))) ∷
+    entry 4 (RouteOf drawnC 0) (Route (unitSet (0 ∷ 2 ∷ 3 ∷ [])) 3 (unitSet (2 ∷ []))) ∷
     entry 5 (ForestOf benchP5) (Refusal (11 ∷ 2 ∷ [])) ∷
     entry 6 (ForestOf benchP6) (Refusal (10 ∷ [])) ∷
     entry 7 (Calls benchP7 (map callOf sendP7)) (Ran sendP7 (message 0 0 7 ∷ []) (out 0 0 1 1 ∷ []) (Log [] ∷ []) (Rest false)) ∷

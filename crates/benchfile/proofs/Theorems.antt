@@ -131,22 +131,13 @@ pub read-again : {file events left out text list again : List ℕ} {a b : ReadAn
     → WritePromise (a .content) left out r text → 32768 ≤ length out → writeAnswer r ≡ WroteBytes k
     → 9000 ≤ length list → ReadPromise (take k text) list b again
     → (readAnswer (b .reply) ≡ ReadNumbers n line) × (b .content ≡ a .content) × (again ≡ take n left ++ drop n list)
+unfolding contentOf
 read-again {file} {events} {left} {out} {text} {list} {again} {a} {b} {r} {n} {line} {k} p h q l wrote lent p′ =
     let (F, e) = read-good-file p h in
-    let t : textOf F ≡ file = read-text (length events) file F e in
-    let m : length (textOf F) ≤ 32768 = subst (λ (x : List ℕ). length x ≤ 32768) (sym t) (read-limits (length events) file F e .1) in
-    let (says, leaves) = read-written p h q l in
-    let size : k ≡ length file = cc in
-    let same : take k text ≡ file = ap₂ (λ (x : ℕ) (y : List ℕ). take x y) size leaves
-    ∙ take-append-seam file (drop (length file) out) in
-    let e′ : readFile (length list) (take k text) ≡ Good F = ap (readFile (length list)) (same ∙ sym t)
-    ∙ text-read (length list) F (read-good (length events) file F e) lent m in
-    let told : ReadNumbers (3 * length (F .events)) (3 + length (F .groups)) ≡ ReadNumbers n line = sym (good-read p e) ∙ h in
-    let count : 3 * length (F .events) ≡ n = cc in
-    let cut : take n left ≡ numbersOf (F .events) =
-    ap₂ (λ (x : ℕ) (y : List ℕ). take x y) (sym (numbers-length (F .events) ∙ count)) (good-left p e)
-    ∙ take-append-seam (numbersOf (F .events)) (drop (3 * length (F .events)) events) in (
-      good-read p′ e′ ∙ told,
-      good-content p′ e′ ∙ sym (good-content p e),
-      good-left p′ e′ ∙ ap₂ (λ (xs : List ℕ) (x : ℕ). xs ++ drop x list) (sym cut) count,
-    )
+    let m : length (textOf (fileOf (a .content) (take 9000 left))) ≤ 32768 = subst (λ (x : List ℕ). length x ≤ 32768)
+    (sym (ap textOf (good-file p e) ∙ read-text (length events) file F e)) (read-limits (length events) file F e .1) in
+    let (says, same, leaves) = written-read (good-well-formed p e) m l q wrote lent p′ in
+    let told : ReadNumbers (3 * a .content .events) (3 + a .content .count) ≡ ReadNumbers n line =
+    ap (λ (c : Content). ReadNumbers (3 * c .events) (3 + c .count)) (good-content p e) ∙ sym (good-read p e) ∙ h in
+    let count : 3 * a .content .events ≡ n = cc in
+    (says ∙ told, same, leaves ∙ ap (λ (x : ℕ). take x left ++ drop x list) count)

@@ -1,4 +1,5 @@
 // The calls that change nothing: is a bench at rest, and the log of a unit.
+use crate::Part;
 use bench_promises::LogReply;
 use bench_promises::RestReply;
 use bench_promises::Totals;
@@ -11,7 +12,7 @@ ghost use Prim.Native.Nat.{ℕ};
 ghost use Rattle.bench_promises.specs.declared.Totals.{Totals as BenchTotals};
 ghost use Rattle.bench_promises.specs.Machine.{restReply, unlessRefused, logStart, logCount};
 ghost use Rattle.bench_promises.specs.State.{bench};
-ghost use Rattle.bench_promises.specs.Promises.{RestPromise, LogPromise, LogPlace, LengthPromise};
+ghost use Rattle.bench_promises.specs.Promises.{RestPromise, LogPromise, LogPlace, PartPromise, LengthPromise};
 ghost use Rattle.bench_store.specs.Values.{columnAt};
 
 // What `rest` answers, lent so many hops.
@@ -87,6 +88,18 @@ pub fn log<'a>(unit: u16, tables: &[u32], gauges: &[u16], book: &'a [u16]) -> &'
     let count = count(unit, tables, gauges, lent);
     let end = start + count;
     &book[start..end]
+}
+
+// The same part by numbers, for a caller that keeps the book.
+pub fn log_part(unit: u16, tables: &[u32], gauges: &[u16], book: &[u16]) -> Part
+    ensures { λ r. ⌜ ((t : BenchTotals) (ms : List ℕ) (ps : List (List (List ℕ)))
+        → PartPromise (bench t (now (tables .entry)) ms ps (now (gauges .entry))) unit (now (book .entry)) (r .start) (r .length)) ⌝ }
+{
+    let lent = book.len();
+    Part {
+        start: start(unit, tables, lent),
+        length: count(unit, tables, gauges, lent),
+    }
 }
 
 // The refusal of `log`, or the log's length.

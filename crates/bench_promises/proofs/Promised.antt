@@ -38,7 +38,8 @@ use Rattle.bench_promises.specs.Machine.{logCount, logPart, logReply}
 use Rattle.bench_promises.specs.Replies.{freshAnswer, sendAnswer, arriveAnswer, restAnswer, logAnswer, Length}
 use Rattle.bench_promises.specs.State.{Bench, hopRecords, logBook, totalsOf, benchOf}
 use Rattle.bench_promises.specs.Promises.{after, OfHops, OfBook, FreshPromise, SentAs, SendPromise, ArrivedAs, ArrivePromise}
-use Rattle.bench_promises.specs.Promises.{RestPromise, handedBack, lengthAnswer, LogPromise, LogPlace, LengthPromise}
+use Rattle.bench_promises.specs.Promises.{RestPromise, handedBack, lengthAnswer, LogPromise, LogPlace, PartPromise, LengthPromise}
+use Rattle.bench_promises.proofs.LogParts.{log-inside}
 use Rattle.bench_promises.proofs.Padding.{filled-whole, tabulate-at}
 use Rattle.bench_promises.proofs.Books.{fresh-hops, fresh-book, fresh-bench, book-part}
 use Rattle.bench_promises.proofs.Sends as S
@@ -368,6 +369,20 @@ start-short ts u book l = simp (lt-ltb book 6400 l) refl
 start-none : (P : Plan) (W : Network) (u book : ℕ) → 6400 ≤ book → P .units ≤ u → logStart (benchOf P W .tables) u book ≡ 0
 unfolding logStart unlessRefused refuse
 start-none P W u book whole over = simp (le-ltb book 6400 whole, units-at P W) (simp (le-leb (P .units) u over) refl)
+
+pub part-promise : (b : Bench) (u : ℕ) (book : List ℕ)
+    → PartPromise b u book (logStart (b .tables) u (length book)) (logCount (b .tables) (b .gauges) u (length book))
+unfolding after logPart
+part-promise b u book = record {
+  inside = log-inside (b .tables) (b .gauges) u (length book) .2;
+  part = log-promise b u book;
+  short = start-short (b .tables) u (length book);
+  refused = λ P planned cs e of over. ap start e ∙ start-none P (after P cs) u (length book) (of .whole) over;
+  rule = λ P planned cs e of unit. ap start e ∙ start-is P (planned-forest P planned) (after P cs) u (length book) (of .whole) unit;
+}
+  where
+    start : Bench → ℕ
+    start x = logStart (x .tables) u (length book)
 
 pub log-place : (b : Bench) (u : ℕ) (book part : RefT (List ℕ))
     → part .ptr ≡ (book .ptr .0, logStart (b .tables) u (length (book .now)) * 2 + book .ptr .1) → LogPlace b u book part

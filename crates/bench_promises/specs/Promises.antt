@@ -116,6 +116,16 @@ pub record LogPlace (b : Bench) (unit : ℕ) (book part : RefT (List ℕ)) : Typ
       → OfBook (after P cs) (book .now) → unit < P .units
       → part .ptr ≡ (book .ptr .0, book .ptr .1 + 2 * (unit * 200))
 
+-- the same part by numbers: it starts at a place of the book, and has so many. It lies inside the book, whatever is handed over
+pub record PartPromise (b : Bench) (unit : ℕ) (book : List ℕ) (start count : ℕ) : Type 0 where
+  pub inside : start + count ≤ length book
+  pub part : LogPromise b unit book (take count (drop start book))
+  pub short : length book < 6400 → start ≡ 0
+  pub refused : (P : Plan) → Planned P → (cs : List Call) → b ≡ benchOf P (after P cs) → OfBook (after P cs) book
+      → P .units ≤ unit → start ≡ 0
+  pub rule : (P : Plan) → Planned P → (cs : List Call) → b ≡ benchOf P (after P cs) → OfBook (after P cs) book
+      → unit < P .units → start ≡ unit * 200
+
 pub record LengthPromise (b : Bench) (unit : ℕ) (book : List ℕ) (r : LogReply) : Type 0 where
   pub short : length book < 6400 → logAnswer r ≡ LengthRefused 1
   pub rule : (P : Plan) → Planned P → (cs : List Call) → b ≡ benchOf P (after P cs) → OfBook (after P cs) book

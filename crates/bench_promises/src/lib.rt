@@ -12,6 +12,7 @@ pub use replies::RestReply;
 pub use replies::SendReply;
 
 // Hops made and taken, messages sent, and the sum of their route sizes (document 01: way sizes).
+#[repr(C)]
 pub struct Totals {
     pub made: u16,
     pub taken: u16,

@@ -14,6 +14,9 @@ impl PairCounts {
     pub const MADE: usize = 0;
 
     pub const TAKEN: usize = 1;
+
+    // How many arrays the list has.
+    pub const SIZE: usize = 2;
 }
 
 // The arrays out of the struct.

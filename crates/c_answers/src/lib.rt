@@ -1,4 +1,6 @@
-// The answer of a call for C: three numbers.
+// The answers of the calls for C: three numbers, of 64 bits, or of 16 for a call on a bench (`replies`).
+pub mod replies;
+
 use forest::Verdict;
 ghost use Rattle.forest.specs.Calls.{refusal as refusalOf};
 ghost use mathlib.Core.Path.{_≡_};

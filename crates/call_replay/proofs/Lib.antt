@@ -1,4 +1,3 @@
-pub mod Threes
 pub mod Puts
 pub mod Records
 pub mod States

@@ -7,11 +7,10 @@ use native.Mathlib.Numerals.{add-one}
 use lib.ListN.{length, take}
 use lib.Seq.{length-take-le}
 use Rattle.text.specs.Writing.{Written}
-use Rattle.text.proofs.Written.{written-append}
+use Rattle.text.proofs.Written.{written-is, written-append}
 use Rattle.bench_store.specs.Values.{rowIn}
 use Rattle.bench_promises.specs.State.{joined}
 use Rattle.call_replay.specs.Claims.{rowsOf}
-use Rattle.call_replay.proofs.Threes.{written-is}
 
 -- a part of as many as are asked for, or all there are, is as long as it says
 pub lent-length : {A : Type 0} (n k : ℕ) (l : List A) → k ≡ min n (length l) → k ≡ length (take k l)

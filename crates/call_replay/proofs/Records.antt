@@ -8,14 +8,13 @@ use lib.ListN.{length, take}
 use lib.Seq.{take-suc, take-all}
 use denote.Struct.Laws as LL
 use Rattle.text.specs.Writing.{Written}
-use Rattle.text.proofs.Written.{written-append}
+use Rattle.text.proofs.Written.{written-is, written-append}
 use Rattle.model.specs.declared.Hop.{Hop}
 use Rattle.model.specs.Network.{noHop, hopAt}
 use Rattle.model.proofs.Hop as T
 use Rattle.model.proofs.Hop.Laws as T′
 use Rattle.hops.proofs.Records.{Low}
 use Rattle.call_replay.specs.Rules.{hopNumbers, nines}
-use Rattle.call_replay.proofs.Threes.{written-is}
 
 pub nines-low : Low nines
 unfolding nines

@@ -13,7 +13,7 @@ use lib.Seq.{length-take-le, drop-drop}
 use lib.Dec.{eqb}
 use Rattle.sets.proofs.Bools.{clash}
 use Rattle.text.specs.Writing.{Written}
-use Rattle.text.proofs.Written.{written-none, written-append}
+use Rattle.text.proofs.Written.{written-is, written-none, written-append}
 use Rattle.model.specs.declared.Hop.{Hop}
 use Rattle.model.specs.Network.{Plan, Network}
 use Rattle.model.specs.Rules.{Answer, Refused, Sent, Repeat, Held, Taken, Outcome, outcome, answerOf, leftOf}
@@ -27,15 +27,16 @@ use Rattle.bench.specs.Lists.{listsOf}
 use Rattle.bench_promises.specs.Replies.{LengthAnswer, LengthRefused, Length as LengthIs, sendAnswer, arriveAnswer, restAnswer}
 use Rattle.bench_promises.specs.Promises.{after, handedBack, lengthAnswer}
 use Rattle.bench_promises.proofs.Reached.{within, left-state}
-use Rattle.call_replay.specs.Rules.{Request, Send, Arrive, Log, Length, Rest, requestOf, requestsOf, answerNumbers, lengthNumbers}
-use Rattle.call_replay.specs.Rules.{restNumbers, logNumbers, Replied, replied, answeredAs, reply, followed, runFrom}
-use Rattle.call_replay.specs.Steps.{isGoing, requestIn, requestAt, isSend, isArrive, threeOf, afterSend, afterArrive, afterRest}
+use Rattle.call_replay.specs.Rules.{Request, Send, Arrive, Log, Length, Rest, requestOf, requestsOf}
+use Rattle.call_replay.specs.Rules.{logNumbers, Replied, replied, answeredAs, reply, followed, runFrom}
+use Rattle.call_replay.specs.Steps.{isGoing, requestIn, requestAt, isSend, isArrive, afterSend, afterArrive, afterRest}
 use Rattle.call_replay.specs.Steps.{hopsLent, bookLent, CallRun, sent, arrived, looked, NumbersPut, put-log, put-length, put-three}
 use Rattle.call_replay.specs.Steps.{CallsFrom, over, next}
 use Rattle.call_replay.specs.declared.requests.Request.{Request as Asked}
 use Rattle.call_replay.specs.declared.requests.Progress.{Progress}
 use Rattle.call_replay.specs.declared.replies.Done.{Done}
-use Rattle.call_replay.proofs.Threes.{written-is, answer-three, rest-three}
+use Rattle.c_answers.specs.Replies.{threeOf, answerNumbers, lengthNumbers, restNumbers}
+use Rattle.c_answers.proofs.Threes.{answer-three, rest-three}
 use Rattle.call_replay.proofs.States.{At, hops-length, book-length, sent-at, arrived-at, rested-at, logged-at, length-at}
 
 -- ---- the requests of a list of numbers

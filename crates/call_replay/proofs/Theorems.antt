@@ -3,7 +3,7 @@
 use mathlib.Core.Path.{_≡_, refl, sym, ap, subst, _∙_}
 use mathlib.Core.Bool.{Bool, true, false, cond}
 use mathlib.Core.Logic.{by-cases}
-use mathlib.Core.List.{List, [], _∷_, _++_, append-nil, append-assoc, map}
+use mathlib.Core.List.{List, [], _∷_, _++_, append-nil, append-assoc}
 use Prim.Native.Nat.{ℕ, _+_, _*_, _-_, _<_}
 use native.Mathlib.Nat.{suc-ne-zero}
 use native.Mathlib.Decide.{decLt}
@@ -20,7 +20,7 @@ use Rattle.model.specs.Rules.{Answer, Refused, Sent, Repeat, Held, Taken, Outco
 use Rattle.model.specs.Calls.{Call, Send as SendCall, Arrive as ArriveCall, call, Answered, answered, Run, ran as ranTo, recorded, step}
 use Rattle.model.specs.Calls.{runFrom as runCallsFrom, run as runCalls, networkOf, historyOf, log, rest as restOf}
 use Rattle.model.specs.Demand3.{Planned, checked, Demand3}
-use Rattle.model.specs.Claims.{Limits, callOf}
+use Rattle.model.specs.Claims.{Limits}
 use Rattle.model.proofs.Planning.{planned-forest}
 use Rattle.model.proofs.Theorems.{demand-3, limits}
 use Rattle.bench_promises.specs.State.{padded, hopRecords, logBook, totalsOf, benchOf}
@@ -31,11 +31,12 @@ use Rattle.bench_promises.proofs.Books.{book-part}
 use Rattle.bench_promises.proofs.Promised.{log-promise}
 use Rattle.bench_promises.proofs.Reached.{hop-records-length, log-book-length}
 use Rattle.bench_promises.proofs.Theorems.{handed-log, reached-rest, reached, same-calls, list-history, list-log, chains-exist}
-use Rattle.call_replay.specs.Rules.{Request, Send, Arrive, Log, Length, Rest, answerNumbers, lengthNumbers, restNumbers, logNumbers}
+use Rattle.call_replay.specs.Rules.{Request, Send, Arrive, Log, Length, Rest, logNumbers}
 use Rattle.call_replay.specs.Rules.{Replied, replied, answeredAs, reply, followed, runFrom, run, hopNumbers, nines, lastRecords}
 use Rattle.call_replay.specs.Rules.{Given, requests, resultsShort, freshShort, forestRefused, benchNumbers, refusalOf, planOf, over}
 use Rattle.call_replay.specs.Rules.{ran, repliesOf, stateOf, CallsPromise}
 use Rattle.c_answers.specs.Answers.{numbersOf, refusedFor, unlessRefused}
+use Rattle.c_answers.specs.Replies.{answerNumbers, lengthNumbers, restNumbers}
 use Rattle.c_answers.specs.declared.Answer.{Answer as Told}
 use Rattle.call_replay.proofs.Outcomes.{bench-out, bench-length}
 use Rattle.call_replay.proofs.Runs.{answer-length, length-length, rest-length, answered-is}

@@ -1,4 +1,4 @@
--- Rules of a list of calls (include/scrollcairn.h, scrollcairn_calls): what it answers and leaves, for every input. Definitions only.
+-- Rules of a list of calls (include/scrollcairn_replay.h): what scrollcairn_calls answers and leaves, for every input. Definitions only.
 use Prim.Native.Nat.{ℕ, _*_, min}
 use mathlib.Core.Path.{_≡_}
 use mathlib.Core.Bool.{Bool, _||_, cond}
@@ -8,13 +8,13 @@ use lib.Dec.{ltb, eqb}
 use Rattle.layout.specs.Tables.{tabulate}
 use Rattle.forest.specs.Calls.{checkRefusal, checkParents}
 use Rattle.model.specs.declared.Hop.{Hop}
-use Rattle.model.specs.Network.{Plan, Network, fresh, messagesOf, hopsOf, logOf, bit, isTaken, countHops, pairCount, pairTaken}
-use Rattle.model.specs.Rules.{Answer as ModelAnswer, Refused, Sent, Repeat, Held, Taken, Outcome, outcome, routeTotal}
-use Rattle.model.specs.Calls.{Send as SendCall, Arrive as ArriveCall, call, log, RestAnswer, RestRefused, Rest as RestSays, rest}
-use Rattle.bench_promises.specs.Replies.{LengthAnswer, LengthRefused, Length as LengthIs}
+use Rattle.model.specs.Network.{Plan, Network, fresh, messagesOf, hopsOf, logOf, isTaken, countHops, pairCount, pairTaken}
+use Rattle.model.specs.Rules.{Outcome, outcome, routeTotal}
+use Rattle.model.specs.Calls.{Send as SendCall, Arrive as ArriveCall, call, log, rest}
 use Rattle.bench_promises.specs.State.{joined, hopRecords, logBook, messageColumn}
 use Rattle.bench_promises.specs.Promises.{handedBack, lengthAnswer}
 use Rattle.c_answers.specs.Answers.{numbersOf, refusedFor, unlessRefused}
+use Rattle.c_answers.specs.Replies.{answerNumbers, lengthNumbers, restNumbers}
 use Rattle.c_answers.specs.declared.Answer.{Answer}
 
 -- ---- the calls
@@ -45,24 +45,9 @@ requestsOf book (k ∷ a ∷ b ∷ c ∷ []) = []
 requestsOf book (k ∷ a ∷ b ∷ c ∷ n ∷ []) = []
 requestsOf book (k ∷ a ∷ b ∷ c ∷ n ∷ m ∷ calls) = requestOf book k a b c n m ∷ requestsOf book calls
 
--- ---- the replies: the number of the refusal, the kind of the reply, its value
+-- ---- the replies: three numbers each (c_answers/specs/Replies.antt)
 
-unfoldable pub answerNumbers : ModelAnswer → List ℕ
-answerNumbers (Refused number) = number ∷ 0 ∷ 0 ∷ []
-answerNumbers (Sent m) = 0 ∷ 1 ∷ m ∷ []
-answerNumbers Repeat = 0 ∷ 2 ∷ 0 ∷ []
-answerNumbers Held = 0 ∷ 3 ∷ 0 ∷ []
-answerNumbers (Taken n) = 0 ∷ 4 ∷ n ∷ []
-
-unfoldable pub lengthNumbers : LengthAnswer → List ℕ
-lengthNumbers (LengthRefused number) = number ∷ 0 ∷ 0 ∷ []
-lengthNumbers (LengthIs n) = 0 ∷ 5 ∷ n ∷ []
-
-unfoldable pub restNumbers : RestAnswer → List ℕ
-restNumbers (RestRefused number) = number ∷ 0 ∷ 0 ∷ []
-restNumbers (RestSays b) = 0 ∷ 6 ∷ bit b ∷ []
-
--- the messages that log hands back follow
+-- of log: the messages that it hands back follow
 unfoldable pub logNumbers : List ℕ → List ℕ
 logNumbers messages = 0 ∷ 7 ∷ length messages ∷ messages
 

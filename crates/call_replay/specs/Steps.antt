@@ -2,7 +2,7 @@
 use Prim.Native.Nat.{ℕ, _*_, _-_, _/_, _%_, min}
 use mathlib.Core.Path.{_≡_}
 use mathlib.Core.Bool.{Bool, true, false, not, _||_}
-use mathlib.Core.List.{List, [], _∷_, _++_}
+use mathlib.Core.List.{List, _∷_, _++_}
 use lib.ListN.{length, getD, take, drop, replicate}
 use lib.Dec.{ltb, eqb}
 use Rattle.text.specs.Writing.{Written}
@@ -16,10 +16,10 @@ use Rattle.bench.specs.declared.Fresh.{Fresh}
 use Rattle.bench.specs.declared.Sent.{Sent}
 use Rattle.bench.specs.declared.Arrived.{Arrived}
 use Rattle.bench.specs.Lists.{listsOf}
-use Rattle.call_replay.specs.Rules.{answerNumbers, lengthNumbers, restNumbers, hopNumbers, nines}
+use Rattle.c_answers.specs.Replies.{threeOf, replyOf, answerNumbers, lengthNumbers, restNumbers}
+use Rattle.call_replay.specs.Rules.{hopNumbers, nines}
 use Rattle.call_replay.specs.declared.requests.Request.{Request}
 use Rattle.call_replay.specs.declared.requests.Progress.{Progress}
-use Rattle.call_replay.specs.declared.replies.Reply.{Reply}
 use Rattle.call_replay.specs.declared.replies.Done.{Done}
 use Rattle.call_replay.specs.declared.benches.Ended.{Ended}
 
@@ -45,13 +45,6 @@ unfoldable pub isArrive : Request → Bool
 isArrive q = eqb (q .kind) 1
 
 -- ---- one call
-
-unfoldable pub threeOf : Reply → List ℕ
-threeOf r = r .refusal ∷ r .kind ∷ r .value ∷ []
-
--- the reply of three numbers
-unfoldable pub replyOf : List ℕ → Reply
-replyOf l = record { refusal = getD l 0 0; kind = getD l 1 0; value = getD l 2 0 }
 
 unfoldable pub afterSend : Sent → Done
 afterSend r = record { bench = r .bench; reply = replyOf (answerNumbers (sendAnswer (r .reply))) }

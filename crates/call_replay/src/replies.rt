@@ -2,107 +2,20 @@
 use crate::requests;
 use crate::requests::Progress;
 use crate::requests::Request;
-use crate::writing;
 use bench::Arrived;
 use bench::Bench;
 use bench::Sent;
-use bench_promises::ArriveReply;
-use bench_promises::LogReply;
 use bench_promises::RestReply;
-use bench_promises::SendReply;
+use c_answers::replies::Reply;
 ghost use mathlib.Core.Path.{_≡_};
-ghost use mathlib.Core.List.{[], _∷_};
 ghost use Rattle.text.specs.Writing.{Written};
-ghost use Rattle.model.specs.Calls.{Rest};
-ghost use Rattle.bench_promises.specs.Replies.{sendAnswer, arriveAnswer, restAnswer, logAnswer};
-ghost use Rattle.call_replay.specs.Rules.{answerNumbers, lengthNumbers, restNumbers};
-ghost use Rattle.call_replay.specs.Steps.{threeOf, afterSend, afterArrive, afterRest, LogPut, LengthPut, NumbersPut, ReplyPut};
-
-// The number of a refusal, or 0; the kind of the reply; its value.
-pub struct Reply {
-    pub refusal: u16,
-    pub kind: u16,
-    pub value: u16,
-}
+ghost use Rattle.c_answers.specs.Replies.{threeOf};
+ghost use Rattle.call_replay.specs.Steps.{afterSend, afterArrive, afterRest, LogPut, LengthPut, NumbersPut, ReplyPut};
 
 // A call that was run.
 pub struct Done {
     pub bench: Bench,
     pub reply: Reply,
-}
-
-fn refused(number: u16) -> Reply
-    ensures { λ r. ⌜ threeOf r ≡ number ∷ 0 ∷ 0 ∷ [] ⌝ }
-{
-    Reply {
-        refusal: number,
-        kind: 0,
-        value: 0,
-    }
-}
-
-fn told(kind: u16, value: u16) -> Reply
-    ensures { λ r. ⌜ threeOf r ≡ 0 ∷ kind ∷ value ∷ [] ⌝ }
-{
-    Reply {
-        refusal: 0,
-        kind,
-        value,
-    }
-}
-
-fn of_send(reply: SendReply) -> Reply
-    ensures { λ r. ⌜ threeOf r ≡ answerNumbers (sendAnswer reply) ⌝ }
-{
-    match reply {
-        SendReply::Sent(message) => told(1, message),
-        SendReply::ListTooShort => refused(1),
-        SendReply::NoSuchUnit => refused(12),
-        SendReply::NoSuchGroup => refused(13),
-        SendReply::TooManyMessages => refused(14),
-        SendReply::RoutesTooLong => refused(15),
-    }
-}
-
-fn of_arrive(reply: ArriveReply) -> Reply
-    ensures { λ r. ⌜ threeOf r ≡ answerNumbers (arriveAnswer reply) ⌝ }
-{
-    match reply {
-        ArriveReply::Taken(copies) => told(4, copies),
-        ArriveReply::Held => told(3, 0),
-        ArriveReply::Repeat => told(2, 0),
-        ArriveReply::ListTooShort => refused(1),
-        ArriveReply::NotMade => refused(16),
-    }
-}
-
-fn of_length(reply: LogReply) -> Reply
-    ensures { λ r. ⌜ threeOf r ≡ lengthNumbers (logAnswer reply) ⌝ }
-{
-    match reply {
-        LogReply::Length(length) => told(5, length),
-        LogReply::ListTooShort => refused(1),
-        LogReply::NoSuchUnit => refused(17),
-    }
-}
-
-// 6 with 1 for yes.
-fn of_yes(yes: bool) -> Reply
-    ensures { λ r. ⌜ threeOf r ≡ restNumbers (Rest yes) ⌝ }
-{
-    if yes {
-        return told(6, 1);
-    }
-    told(6, 0)
-}
-
-fn of_rest(reply: RestReply) -> Reply
-    ensures { λ r. ⌜ threeOf r ≡ restNumbers (restAnswer reply) ⌝ }
-{
-    match reply {
-        RestReply::Rest(yes) => of_yes(yes),
-        RestReply::ListTooShort => refused(1),
-    }
 }
 
 pub fn after_send(sent: Sent) -> Done
@@ -112,7 +25,7 @@ pub fn after_send(sent: Sent) -> Done
     let reply = sent.reply;
     Done {
         bench,
-        reply: of_send(reply),
+        reply: c_answers::replies::of_send(reply),
     }
 }
 
@@ -123,7 +36,7 @@ pub fn after_arrive(arrived: Arrived) -> Done
     let reply = arrived.reply;
     Done {
         bench,
-        reply: of_arrive(reply),
+        reply: c_answers::replies::of_arrive(reply),
     }
 }
 
@@ -132,7 +45,7 @@ pub fn after_rest(bench: Bench, reply: RestReply) -> Done
 {
     Done {
         bench,
-        reply: of_rest(reply),
+        reply: c_answers::replies::of_rest(reply),
     }
 }
 
@@ -146,9 +59,9 @@ pub fn bench_of(done: Done) -> Bench
 fn put_three(out: &mut [u16], at: usize, reply: Reply) -> usize
     ensures { λ r. ⌜ Written (threeOf reply) at (now (out .entry)) r (now (out .exit)) ⌝ }
 {
-    let refusal = writing::put(out, at, reply.refusal);
-    let kind = writing::put(out, refusal, reply.kind);
-    writing::put(out, kind, reply.value)
+    let refusal = number_writer::put(out, at, reply.refusal);
+    let kind = number_writer::put(out, refusal, reply.kind);
+    number_writer::put(out, kind, reply.value)
 }
 
 // What log hands back.
@@ -156,8 +69,12 @@ fn put_log(bench: Bench, unit: u16, book: &[u16], out: &mut [u16], at: usize) ->
     ensures { λ r. ⌜ LogPut bench unit (now (book .entry)) (now (out .entry)) at r (now (out .exit)) ⌝ }
 {
     let log = bench.log(unit, book);
-    let next = put_three(out, at, told(7, (log.len() % 65536) as u16));
-    writing::put_all(out, next, log)
+    let next = put_three(
+        out,
+        at,
+        c_answers::replies::told(7, (log.len() % 65536) as u16),
+    );
+    number_writer::put_all(out, next, log)
 }
 
 // What the second log call answers.
@@ -165,7 +82,7 @@ fn put_length(bench: Bench, unit: u16, book: &[u16], out: &mut [u16], at: usize)
     ensures { λ r. ⌜ LengthPut bench unit (now (book .entry)) (now (out .entry)) at r (now (out .exit)) ⌝ }
 {
     let reply = bench.log_length(unit, book);
-    put_three(out, at, of_length(reply))
+    put_three(out, at, c_answers::replies::of_length(reply))
 }
 
 // The numbers of a call's reply. The two calls on a log leave all as it is, and are run only here.

@@ -1,4 +1,5 @@
-// Numbers put into a lent list from a place on. Each function answers the place after them; at the list's end writing stops.
+// Hop records and a bench, as numbers put into a lent list from a place on. Each function answers the place after them; at the list's end
+// writing stops.
 use bench::Bench;
 use bench_promises::Totals;
 use bench_store::Limits;
@@ -13,30 +14,6 @@ ghost use Rattle.call_replay.specs.Claims.{totalNumbers, rowsOf, benchOu
 
 // ---- into a list of 16-bit numbers
 
-// One number.
-pub fn put(out: &mut [u16], at: usize, number: u16) -> usize
-    ensures { λ r. ⌜ Written (number ∷ []) at (now (out .entry)) r (now (out .exit)) ⌝ }
-{
-    if at < out.len() {
-        out[at] = number;
-        return at + 1;
-    }
-    at
-}
-
-// A list of numbers.
-pub fn put_all(out: &mut [u16], at: usize, numbers: &[u16]) -> usize
-    ensures { λ r. ⌜ Written (now (numbers .entry)) at (now (out .entry)) r (now (out .exit)) ⌝ }
-{
-    let mut next = at;
-    let mut i = 0;
-    while i < numbers.len() {
-        next = put(out, next, numbers[i]);
-        i += 1;
-    }
-    next
-}
-
 // A byte as a number of 16 bits.
 fn wide(byte: u8) -> u16
     ensures { λ r. ⌜ r ≡ byte ⌝ }
@@ -48,51 +25,14 @@ fn wide(byte: u8) -> u16
 pub fn put_hop(out: &mut [u16], at: usize, hop: model::Hop) -> usize
     ensures { λ r. ⌜ Written (hopNumbers (hop ∷ [])) at (now (out .entry)) r (now (out .exit)) ⌝ }
 {
-    let sender = put(out, at, wide(hop.sender));
-    let receiver = put(out, sender, wide(hop.receiver));
-    let sequence = put(out, receiver, hop.sequence);
-    let message = put(out, sequence, hop.message);
-    put(out, message, wide(hop.state))
+    let sender = number_writer::put(out, at, wide(hop.sender));
+    let receiver = number_writer::put(out, sender, wide(hop.receiver));
+    let sequence = number_writer::put(out, receiver, hop.sequence);
+    let message = number_writer::put(out, sequence, hop.message);
+    number_writer::put(out, message, wide(hop.state))
 }
 
 // ---- into a list of 32-bit numbers
-
-// One number.
-fn put_wide(out: &mut [u32], at: usize, number: u32) -> usize
-    ensures { λ r. ⌜ Written (number ∷ []) at (now (out .entry)) r (now (out .exit)) ⌝ }
-{
-    if at < out.len() {
-        out[at] = number;
-        return at + 1;
-    }
-    at
-}
-
-// A list of numbers.
-fn put_all_wide(out: &mut [u32], at: usize, numbers: &[u32]) -> usize
-    ensures { λ r. ⌜ Written (now (numbers .entry)) at (now (out .entry)) r (now (out .exit)) ⌝ }
-{
-    let mut next = at;
-    let mut i = 0;
-    while i < numbers.len() {
-        next = put_wide(out, next, numbers[i]);
-        i += 1;
-    }
-    next
-}
-
-// A list of 16-bit numbers.
-fn put_widened(out: &mut [u32], at: usize, numbers: &[u16]) -> usize
-    ensures { λ r. ⌜ Written (now (numbers .entry)) at (now (out .entry)) r (now (out .exit)) ⌝ }
-{
-    let mut next = at;
-    let mut i = 0;
-    while i < numbers.len() {
-        next = put_wide(out, next, numbers[i] as u32);
-        i += 1;
-    }
-    next
-}
 
 // Counts of the pairs, row by row: those of hops made, or of hops taken.
 fn put_pairs(
@@ -107,7 +47,7 @@ fn put_pairs(
     let mut sender = 0;
     while sender < Limits::UNITS {
         let row = counts::row(pairs, k, sender);
-        next = put_widened(out, next, &row);
+        next = number_writer::put_widened(out, next, &row);
         sender += 1;
     }
     next
@@ -118,7 +58,7 @@ fn put_totals(out: &mut [u32], at: usize, totals: Totals) -> usize
     ensures { λ r. ⌜ Written (totalNumbers totals) at (now (out .entry)) r (now (out .exit)) ⌝ }
 {
     let numbers = [totals.made, totals.taken, totals.sent, totals.routed];
-    put_widened(out, at, &numbers)
+    number_writer::put_widened(out, at, &numbers)
 }
 
 // A bench: its totals, the length of each unit's log, the messages, the hops made and the hops taken of each pair.
@@ -130,8 +70,8 @@ pub fn put_bench(out: &mut [u32], bench: Bench) -> usize
     let messages = bench.messages;
     let pairs = bench::pairs_of(bench);
     let head = put_totals(out, 0, totals);
-    let lengths = put_widened(out, head, &gauges);
-    let columns = put_all_wide(out, lengths, &messages);
+    let lengths = number_writer::put_widened(out, head, &gauges);
+    let columns = number_writer::put_all_wide(out, lengths, &messages);
     let made = put_pairs(out, columns, &pairs, PairCounts::MADE);
     put_pairs(out, made, &pairs, PairCounts::TAKEN)
 }

@@ -1,6 +1,7 @@
 // The records of the rules of the bench (specs/). `Hop` is that of its code too.
 
 // A hop: one copy of a message on the cable from a sender to a receiver. The state is 0 out, 1 held, 2 taken.
+#[repr(C)]
 pub struct Hop {
     pub sender: u8,
     pub receiver: u8,

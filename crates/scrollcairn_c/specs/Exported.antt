@@ -1,8 +1,8 @@
--- What the exported calls promise (include/scrollcairn.h): what each answers and leaves in all that it is lent, for every input.
--- Definitions only.
-use Prim.Native.Nat.{ℕ, _+_, _*_, _%_}
+-- What the exported calls promise (include/scrollcairn.h, scrollcairn_replay.h), but for the live ones: what each answers and leaves in
+-- all that it is lent, for every input. Definitions only.
+use Prim.Native.Nat.{ℕ, _%_}
 use mathlib.Core.Path.{_≡_}
-use mathlib.Core.Bool.{not, cond}
+use mathlib.Core.Bool.{not}
 use mathlib.Core.List.{List, [], _∷_}
 use lib.ListN.{length, getD}
 use lib.Dec.{eqb}

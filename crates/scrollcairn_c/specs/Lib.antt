@@ -1,1 +1,4 @@
 pub mod Exported
+pub mod Live
+pub mod Opening
+pub mod Claims

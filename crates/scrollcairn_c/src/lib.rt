@@ -1,6 +1,10 @@
-// The calls of include/scrollcairn.h, for C and C++. The promise of each equates it to the rules (specs/Exported.antt).
+// The calls of include/scrollcairn.h and scrollcairn_replay.h, for C and C++. The promise of each equates it to the rules
+// (specs/Exported.antt; of the live calls specs/Live.antt).
 mod answers;
 mod contents;
+pub mod live;
+mod opening;
+mod steps;
 
 ghost use Rattle.call_replay.specs.Rules.{given};
 ghost use Rattle.scrollcairn_c.specs.Exported.{RunExported, BuildExported, CheckExported, ReadExported, WriteExported};

@@ -1,5 +1,5 @@
 -- Laws of bytes written from a place on: nothing, one byte, one text after another, and what a list then holds. Assumes nothing.
-use mathlib.Core.Path.{_≡_, refl, sym, ap, _∙_}
+use mathlib.Core.Path.{_≡_, refl, sym, ap, subst, _∙_}
 use mathlib.Core.Logic.{by-cases}
 use mathlib.Core.Bool.{Bool, cond}
 use mathlib.Core.List.{List, [], _∷_, _++_}
@@ -47,6 +47,9 @@ sets-append (b ∷ s) t list at = by-cases (decLt at (length list))
     let end : length list ≤ at = omega arith in
     sets-end ((b ∷ s) ++ t) list at end
     ∙ sym (rw (reach-end at (suc (length s)) (length list) end, sets-end (b ∷ s) list at end) (sets-end t list at end)))
+
+pub written-is : {s t list left : List ℕ} {at place : ℕ} → s ≡ t → Written s at list place left → Written t at list place left
+written-is {list = list} {left} {at} {place} e w = subst (λ (x : List ℕ). Written x at list place left) e w
 
 pub written-none : (at : ℕ) (list : List ℕ) → Written [] at list at list
 unfolding reach

@@ -32,6 +32,7 @@ struct Pair {
 
 const NO_HOPS: Pair = Pair { first: NONE, last: NONE };
 
+/// A bench, message by message.
 pub struct Bench {
     units: usize,
     groups: usize,
@@ -48,7 +49,14 @@ pub struct Bench {
     logs: [[u8; MESSAGES]; UNITS],
 }
 
+impl Default for Bench {
+    fn default() -> Bench {
+        Bench::new()
+    }
+}
+
 impl Bench {
+    /// Buffers; `reset` makes a bench of them.
     pub fn new() -> Bench {
         Bench {
             units: 0,
@@ -95,6 +103,7 @@ impl Bench {
         self.log_lengths = [0; UNITS];
     }
 
+    /// A message from a unit to a group; refused with its number.
     pub fn send(&mut self, source: u16, group: u16) -> Result<(), u16> {
         let (source, group) = (source as usize, group as usize);
         if source >= self.units {
@@ -172,12 +181,26 @@ impl Bench {
         });
     }
 
+    /// The messages that a unit has logged; none for no unit.
+    pub fn log(&self, unit: u16) -> &[u8] {
+        let unit = unit as usize;
+        match unit < self.units {
+            true => &self.logs[unit][..self.log_lengths[unit]],
+            false => &[],
+        }
+    }
+
+    /// Whether every hop is taken.
+    pub fn is_at_rest(&self) -> bool {
+        self.hops_taken == self.hops.len()
+    }
+
     /// The lines of logs, hops and rest.
     pub fn print(&self, out: &mut Vec<u8>) {
-        for unit in 0..self.units {
+        for unit in 0..self.units as u16 {
             out.extend_from_slice(b"log=");
-            decimal(out, unit as u16);
-            for &message in &self.logs[unit][..self.log_lengths[unit]] {
+            decimal(out, unit);
+            for &message in self.log(unit) {
                 out.push(b',');
                 decimal(out, message as u16);
             }
@@ -185,7 +208,7 @@ impl Bench {
         }
         out.extend_from_slice(b"hops=");
         decimal(out, self.hops.len() as u16);
-        out.extend_from_slice(match self.hops_taken == self.hops.len() {
+        out.extend_from_slice(match self.is_at_rest() {
             true => b"\nrest=yes\n",
             false => b"\nrest=no\n",
         });

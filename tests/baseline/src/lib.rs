@@ -4,9 +4,9 @@ mod bench;
 mod forest;
 mod parse;
 
+pub use bench::Bench;
 pub use forest::{build, check};
 
-use bench::Bench;
 use parse::{Heading, Parser};
 
 pub const UNITS: usize = 32;

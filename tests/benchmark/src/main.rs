@@ -1,44 +1,13 @@
-//! Times the verified library and the baseline on the same inputs, in one process and in turns, and prints a markdown table.
+//! Times the verified library and the baseline on the same inputs, in one process and in turns, and prints markdown tables.
 
 mod inputs;
+mod live;
+mod timing;
 
 use inputs::{File, Largest, Order, Random};
 use model::{GROUPS, UNITS};
 use std::hint::black_box;
-use std::time::{Duration, Instant};
-
-/// A repetition lasts at least so long; the best of so many counts.
-const LEAST: Duration = Duration::from_millis(50);
-const REPETITIONS: usize = 15;
-
-/// The time of one call, from enough calls to fill the least time.
-fn time(calls: u32, call: &mut dyn FnMut()) -> f64 {
-    let start = Instant::now();
-    for _ in 0..calls {
-        call();
-    }
-    start.elapsed().as_secs_f64() / f64::from(calls)
-}
-
-/// How many calls fill the least time.
-fn enough(call: &mut dyn FnMut()) -> u32 {
-    let mut calls = 1;
-    while time(calls, call) * f64::from(calls) < LEAST.as_secs_f64() {
-        calls *= 2;
-    }
-    calls
-}
-
-/// The best times of both sides, in turns.
-fn both(ours: &mut dyn FnMut(), rust: &mut dyn FnMut()) -> (f64, f64) {
-    let (calls_ours, calls_rust) = (enough(ours), enough(rust));
-    let mut best = (f64::MAX, f64::MAX);
-    for _ in 0..REPETITIONS {
-        best.0 = best.0.min(time(calls_ours, ours));
-        best.1 = best.1.min(time(calls_rust, rust));
-    }
-    best
-}
+use timing::{both, heading, rounds, row, LEAST, REPETITIONS};
 
 /// Both sides print what the model prints.
 fn verify(name: &str, file: &File) {
@@ -59,13 +28,13 @@ fn run(name: &str, file: &File) -> (f64, f64) {
     let mut printed = Vec::with_capacity(scrollcairn::OUTPUT);
     let bytes = &file.bytes[..];
     both(
-        &mut || {
+        rounds(|| {
             black_box(scrollcairn::run(black_box(bytes), &mut out)).expect("long enough");
-        },
-        &mut || {
+        }),
+        rounds(|| {
             printed.clear();
             black_box(runner.run(black_box(bytes), &mut printed));
-        },
+        }),
     )
 }
 
@@ -77,23 +46,13 @@ fn build(name: &str, groups: &[u32; GROUPS]) -> (f64, f64) {
     assert_eq!(parents, expected, "{name}: ours");
     assert_eq!(baseline::build(UNITS, groups), Ok(expected), "{name}: the baseline");
     both(
-        &mut || {
+        rounds(|| {
             black_box(scrollcairn::build(UNITS, black_box(groups), GROUPS, &mut parents)).expect("a good table");
-        },
-        &mut || {
+        }),
+        rounds(|| {
             black_box(baseline::build(UNITS, black_box(groups))).expect("a good table");
-        },
+        }),
     )
-}
-
-/// A row; times in units of `unit` seconds.
-fn row(name: &str, (ours, rust): (f64, f64), unit: f64) {
-    let (a, b) = (ours / unit, rust / unit);
-    println!("| {name} | {a:.2} | {b:.2} | {:.2} |", ours / rust);
-}
-
-fn heading(title: &str) {
-    println!("\n| {title} | ours | Rust | ours / Rust |\n| --- | --- | --- | --- |");
 }
 
 /// The largest benches and tables.
@@ -145,4 +104,5 @@ fn main() {
     let largest = Largest::new(&mut random);
     largest_inputs(&largest, &mut random);
     growing_inputs(&largest, &mut random);
+    live::live_calls(&largest, &mut random);
 }

@@ -4,6 +4,7 @@ use crate::files;
 use crate::random::Random;
 use crate::table::{self, Table};
 use crate::workload::{Call, Driver, Style};
+use model::file::{Content, Event};
 use model::forest::{self, Forest};
 use model::{BOOK, HOPS, ROOT, UNITS};
 
@@ -56,6 +57,38 @@ pub struct Input {
 
 /// A random list of calls; the log of every unit and rest come last, lent whole lists.
 pub fn input(random: &mut Random) -> Input {
+    let (table, parents, calls) = match random.below(25) {
+        0 => of_file(&files::full(random)),
+        1 => of_file(&files::both_limits(random)),
+        _ => any(random),
+    };
+    let lists = lists(random, calls.len());
+    let (short_hops, short_book) = (random.percent(3), random.percent(3));
+    Input {
+        table,
+        parents,
+        fresh_hops: fresh_lent(random, short_hops, HOPS, HOPS_LENT),
+        fresh_book: fresh_lent(random, short_book, BOOK, BOOK + 60),
+        calls,
+        lists,
+    }
+}
+
+/// The forest and the calls of a good file, lent whole lists.
+fn of_file(file: &[u8]) -> (Table, [u8; UNITS], Vec<LentCall>) {
+    let run = model::program::run(file).run.expect("a good file");
+    let Content { units, groups, count, .. } = run.content;
+    let call = |event: Event| match event {
+        [0, hop, _] => Call::Arrive { hop },
+        [source, group, word] => Call::Send { source: source - 1, group, word },
+    };
+    let mut calls: Vec<LentCall> = run.events.iter().map(|(event, _)| whole(call(*event))).collect();
+    calls.extend(looks(units));
+    (Table { units, groups, count }, run.bench.forest().answer(), calls)
+}
+
+/// Any calls on any forest, most of them accepted.
+fn any(random: &mut Random) -> (Table, [u8; UNITS], Vec<LentCall>) {
     let (table, parents) = match random.below(20) {
         0..=2 => {
             let table = table::wild(random);
@@ -69,26 +102,24 @@ pub fn input(random: &mut Random) -> Input {
         }
         // only roots: refused where a group has two members
         7 => (table::valid(random), [ROOT; UNITS]),
-        _ => {
-            let (table, drawn) = table::accepted(random);
-            let parents = drawn.unwrap_or_else(|| table::built(&table));
-            (table, parents)
-        }
+        _ => table::with_parents(random),
     };
     let calls = match forest::check(table.units, &table.groups, table.count, &parents) {
         Ok(forest) => random_calls(random, &table, forest),
         Err(_) => (0..random.below(4)).map(|_| any_call(random)).collect(),
     };
-    let lists = lists(random, calls.len());
-    let (short_hops, short_book) = (random.percent(3), random.percent(3));
-    Input {
-        table,
-        parents,
-        fresh_hops: fresh_lent(random, short_hops, HOPS, HOPS_LENT),
-        fresh_book: fresh_lent(random, short_book, BOOK, BOOK + 60),
-        calls,
-        lists,
-    }
+    (table, parents, calls)
+}
+
+/// A call that is lent whole lists.
+fn whole(call: Call) -> LentCall {
+    LentCall { call, hops: HOPS as u16, book: BOOK as u16 }
+}
+
+/// The log of every unit, and rest.
+fn looks(units: usize) -> impl Iterator<Item = LentCall> {
+    let logs = (0..units as u16).map(|unit| Call::Log { unit });
+    logs.chain([Call::Rest { kind: 4 }]).map(whole)
 }
 
 /// A call for a list that is refused as a whole.
@@ -121,9 +152,7 @@ fn random_calls(random: &mut Random, table: &Table, forest: Forest) -> Vec<LentC
         driver.apply(call, hops.into(), book.into());
         calls.push(LentCall { call, hops, book });
     }
-    let whole = |call| LentCall { call, hops: HOPS as u16, book: BOOK as u16 };
-    calls.extend((0..table.units as u16).map(|unit| whole(Call::Log { unit })));
-    calls.push(whole(Call::Rest { kind: 4 }));
+    calls.extend(looks(table.units));
     calls
 }
 

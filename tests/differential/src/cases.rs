@@ -31,6 +31,10 @@ pub fn run(random: &mut Random, subjects: &Subjects, tally: &mut Tally) -> Resul
         }
         65..=72 => build_case(random, subjects, tally),
         73..=82 => check_case(random, subjects, tally),
+        83 | 84 if subjects.library => {
+            tally.case("live calls on any content");
+            library::any_content(random, tally).map_err(|what| Difference { what, file: None, numbers: None })
+        }
         _ => calls_case(random, subjects, tally),
     }
 }
@@ -259,7 +263,7 @@ fn calls_case(random: &mut Random, subjects: &Subjects, tally: &mut Tally) -> Re
     let (answer, left) = replay::expected(&input, tally);
     let mut result = Ok(());
     if subjects.library {
-        result = library::calls(&input, answer, &left, tally);
+        result = library::calls(&input, answer, &left, tally).and_then(|()| library::live(&input, random, tally));
     }
     if answer[0] == 0 {
         tally.compared("demand 3, of calls");

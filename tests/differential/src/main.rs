@@ -3,6 +3,7 @@
 //! differential [--seed N] [--cases N] [--case K] [--program PATH] [--library] [--small]
 //! differential --emit DIR N [--seed N]
 
+mod bench_calls;
 mod calls;
 mod cases;
 mod damage;

@@ -34,3 +34,11 @@ pub fn check(_: &Table, _: &[u8; UNITS], _: Parents, _: &mut Random, _: &mut Tal
 pub fn calls(_: &Input, _: [u64; 3], _: &Lists, _: &mut Tally) -> Result<(), String> {
     absent()
 }
+
+pub fn live(_: &Input, _: &mut Random, _: &mut Tally) -> Result<(), String> {
+    absent()
+}
+
+pub fn any_content(_: &mut Random, _: &mut Tally) -> Result<(), String> {
+    absent()
+}

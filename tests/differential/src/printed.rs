@@ -1,5 +1,6 @@
 //! What a file prints, taken apart: for the tally, and for demand 3.
 
+use crate::bench_calls::arrive_numbers;
 use crate::tally::Tally;
 use model::bench::{ArriveReply, TAKEN};
 use model::program::{Outcome, Printed, Run};
@@ -14,17 +15,14 @@ pub fn tally(expected: &Printed, tally: &mut Tally) {
     for (_, outcome) in &run.events {
         match outcome {
             Outcome::Refused(number) => tally.answer("print", *number),
-            Outcome::Arrived(ArriveReply::Repeat) => tally.reply("repeat"),
-            Outcome::Arrived(ArriveReply::Held) => tally.reply("held"),
-            Outcome::Arrived(ArriveReply::Taken(1)) => tally.reply("taken 1"),
-            Outcome::Arrived(ArriveReply::Taken(_)) => tally.reply("taken more"),
+            Outcome::Arrived(reply) => {
+                let (kind, value) = arrive_numbers(*reply);
+                tally.reply("file", kind, value);
+            }
             Outcome::Sent(_) => {}
         }
     }
-    match expected.bytes.ends_with(b"rest=yes\n") {
-        true => tally.reply("rest"),
-        false => tally.reply("no rest"),
-    }
+    tally.reply("file", 6, expected.bytes.ends_with(b"rest=yes\n").into());
 }
 
 fn lines(bytes: &[u8]) -> impl Iterator<Item = &str> {

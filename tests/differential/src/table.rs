@@ -126,6 +126,13 @@ fn any_accepted(random: &mut Random) -> (Table, Option<[u8; UNITS]>) {
     }
 }
 
+/// The same, with the parents of either forest.
+pub fn with_parents(random: &mut Random) -> (Table, [u8; UNITS]) {
+    let (table, drawn) = accepted(random);
+    let parents = drawn.unwrap_or_else(|| built(&table));
+    (table, parents)
+}
+
 /// The parents of the built forest.
 pub fn built(table: &Table) -> [u8; UNITS] {
     match forest::build(table.units, &table.groups, table.count) {

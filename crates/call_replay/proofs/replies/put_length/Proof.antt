@@ -1,5 +1,5 @@
 -- What `log_length` says is put.
-use Rattle.call_replay.proofs.Threes.{written-is}
+use Rattle.text.proofs.Written.{written-is}
 use borrow.Author.Needs.{needs}
 use Rattle.call_replay.proofs.replies.put_length.Statement.{statement}
 use Rattle.call_replay.proofs.replies.put_length.Tie as tie

@@ -1,6 +1,5 @@
 -- What log hands back is put after its length.
-use Rattle.text.proofs.Written.{written-append}
-use Rattle.call_replay.proofs.Threes.{written-is}
+use Rattle.text.proofs.Written.{written-is, written-append}
 use borrow.Author.Needs.{needs}
 use Rattle.call_replay.proofs.replies.put_log.Statement.{statement}
 use Rattle.call_replay.proofs.replies.put_log.Tie as tie

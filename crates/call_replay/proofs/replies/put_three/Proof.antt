@@ -1,6 +1,6 @@
 -- Three numbers, one after the other.
 use Rattle.text.proofs.Written.{written-append}
-use Rattle.call_replay.specs.Steps.{threeOf}
+use Rattle.c_answers.specs.Replies.{threeOf}
 use borrow.Author.Needs.{needs}
 use Rattle.call_replay.proofs.replies.put_three.Statement.{statement}
 use Rattle.call_replay.proofs.replies.put_three.Tie as tie

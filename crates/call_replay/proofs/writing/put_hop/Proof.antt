@@ -1,8 +1,7 @@
 -- Five numbers, one after the other.
 use mathlib.Core.List.{[], _∷_}
-use Rattle.text.proofs.Written.{written-append}
+use Rattle.text.proofs.Written.{written-is, written-append}
 use Rattle.call_replay.specs.Rules.{hopNumbers}
-use Rattle.call_replay.proofs.Threes.{written-is}
 use borrow.Author.Needs.{needs}
 use Rattle.call_replay.proofs.writing.put_hop.Statement.{statement}
 use Rattle.call_replay.proofs.writing.put_hop.Tie as tie

@@ -4,10 +4,9 @@ use Prim.Native.Nat.{ℕ, _-_, _≤_}
 use native.Mathlib.Omega.{arith}
 use borrow.Author.Needs.{needs}
 use Rattle.text.specs.Writing.{Written}
-use Rattle.text.proofs.Written.{written-none, written-length}
+use Rattle.text.proofs.Written.{written-is, written-none, written-length}
 use Rattle.bench_promises.specs.State.{joined}
 use Rattle.call_replay.specs.Claims.{rowsOf}
-use Rattle.call_replay.proofs.Threes.{written-is}
 use Rattle.call_replay.proofs.Puts.{rows-more}
 use Rattle.call_replay.proofs.writing.put_pairs.Statement.{statement}
 use Rattle.call_replay.proofs.writing.put_pairs.Tie as tie

@@ -5,7 +5,7 @@
  *
  * Every call ends, touches no memory but its own stack and what it is lent, and is safe for every content of it. A pointer with a length
  * behind it is a list of so many numbers or records; the list may be empty, and no list that a call writes to may overlap another. A
- * refused call answers the number of the refusal, and changes nothing that it is lent.
+ * refused call answers the number of the refusal, and changes nothing else that it is lent.
  *
  *   refusal                                                                        calls
  *    1  too short a lent list                                                      run, read, write; the six on lists of a bench
@@ -254,7 +254,7 @@ static inline scrollcairn_reply scrollcairn_bench_arrive(scrollcairn_bench *benc
     return step.reply;
 }
 
-/* The unit's log, a part of the bench's own book, and its length: 0 where there is no such unit. Further calls on the bench may add to
+/* The unit's log, a part of the bench's own book, and its length: 0 where there is no such unit. Further sends and arrivals may add to
  * the log, and leave what it has. */
 static inline const uint16_t *scrollcairn_bench_log(const scrollcairn_bench *bench, uint16_t unit, size_t *length) {
     scrollcairn_part part = scrollcairn_log(

@@ -1,5 +1,5 @@
 -- What the theorems say of lists of live calls: they are lists of calls of demand 3, read off what the caller has. Definitions only; the
--- proofs are in proofs/Theorems.antt. Each contract holds of every input, so that every list of calls that is made is such a list.
+-- proofs are in proofs/Theorems.antt. Each contract holds of every input, so that every list of calls made as told below is such a list.
 use Prim.Native.Nat.{ℕ, _<_}
 use mathlib.Core.Path.{_≡_}
 use mathlib.Core.List.{List, [], _∷_, _++_}

@@ -48,13 +48,14 @@ lists tables messages pairs gauges hops book =
 unfoldable pub benchIn : Totals → Lists → Bench
 benchIn t l = bench t (take 140 (l .tables)) (take 600 (l .messages)) (take 2 (l .pairs)) (take 32 (l .gauges))
 
--- the places that no call uses
+-- the places past those of a bench
 unfoldable pub beyond : Lists → Lists
 beyond l =
     lists (drop 140 (l .tables)) (drop 600 (l .messages)) (drop 2 (l .pairs)) (drop 32 (l .gauges)) (drop 2000 (l .hops))
     (drop 6400 (l .book))
 
--- ---- a lent list is too short, by the lengths of all. Document 01 names hops and book; the others are no bench if they are shorter
+-- ---- a lent list is too short, by the lengths of all. Document 01 names hops and book; shorter ones of the others are no bench, and no
+-- table of groups or parents
 
 unfoldable pub sendShort : (tables messages pairs hops : ℕ) → Bool
 sendShort tables messages pairs hops = ltb tables 140 || (ltb messages 600 || (ltb pairs 2 || ltb hops 2000))

@@ -1,4 +1,4 @@
-// The calls of include/scrollcairn.h and scrollcairn_replay.h, for C and C++. The promise of each equates it to the rules
+// The calls of include/scrollcairn.h and scrollcairn_replay.h, for other languages. The promise of each is in the rules' terms
 // (specs/Exported.antt; of the live calls specs/Live.antt).
 mod answers;
 mod contents;

@@ -14,27 +14,27 @@ use Rattle.sets.proofs.Bools.{either, clash}
 use Rattle.layout.specs.Tables.{tabulate}
 use Rattle.model.specs.declared.Hop.{Hop}
 use Rattle.model.specs.declared.Message.{Message}
-use Rattle.model.specs.Network.{Plan, Network, network, hopAt, messagesOf, hopsOf, logOf, isOut, isTaken, setState, countHops, pairCount}
-use Rattle.model.specs.Network.{pairTaken}
+use Rattle.model.specs.Network.{Ledger, forestsOf, Network, network, hopAt, ledgerOf, messagesOf, hopsOf, logOf, isOut, isTaken}
+use Rattle.model.specs.Network.{setState, countHops, pairCount, pairTaken}
 use Rattle.model.specs.Rules.{Repeat, Outcome, outcome, refuse, refused, answerOf, leftOf, tally, settle, hold, arrive, routeTotal}
 use Rattle.model.specs.Claims.{Limits}
 use Rattle.model.proofs.Hops.{length-state, count-length}
 use Rattle.model.proofs.Sequences.{Numbered, own-pair, out-untaken}
 use Rattle.model.proofs.Idle.{Idle}
-use Rattle.model.proofs.Sound.{Forest, sound-held}
-use Rattle.model.proofs.Runs.{Valid}
-use Rattle.model.proofs.Theorems.{valid-limits}
-use Rattle.model.proofs.Progress.{TakenFirst, taken-first-hold, taken-within, count-pair-state, hold-taken, hold-taken-all, hold-next}
-use Rattle.model.proofs.Progress.{hold-idle}
+use Rattle.model.proofs.Replies.{settle-ledger}
+use Rattle.model.proofs.Rest.{TakenFirst}
+use Rattle.model.proofs.Networks.{Valid, state-lawful}
+use Rattle.model.proofs.Theorems.{valid-limits, valid-numbered, valid-first}
+use Rattle.model.proofs.Progress.{taken-within, count-pair-state, hold-taken, hold-taken-all, hold-next, hold-idle}
 use Rattle.bench_store.specs.Values.{plus, columnAt, withColumn, countIn, addedIn}
 use Rattle.bench_promises.specs.declared.arrival.Arrival.{Arrival}
 use Rattle.bench_promises.specs.Machine.{arriveRefusal, isClosed, closedReply, isNext, begun, Settling, settled, settledFrom}
 use Rattle.bench_promises.specs.Machine.{finishedTotals, finishedPairs, finishedGauges, finishedReply, arriveEnd}
 use Rattle.bench_promises.specs.declared.replies.ArriveReply.the-variants.{Taken as TakenNumber, Held as HeldHop}
 use Rattle.bench_promises.specs.Replies.{arriveAnswer}
-use Rattle.bench_promises.specs.State.{Bench, hopRecords, logBook, pairTable, messageList, totalsOf, benchOf}
+use Rattle.bench_promises.specs.State.{Bench, hopRecords, logBook, pairTable, messageList, totalsOf, planTables, benchOf}
 use Rattle.bench_promises.proofs.Padding.{plus-small, tabulate-at, tabulate-set, count-at, pair-same, pair-added}
-use Rattle.bench_promises.proofs.Sends.{tablesAt, count-few}
+use Rattle.bench_promises.proofs.Sends.{count-few}
 use Rattle.bench_promises.proofs.Copies.{arrivalOf, record-at, record-state}
 use Rattle.bench_promises.proofs.Forwards.{pairsOf}
 use Rattle.bench_promises.proofs.Searches.{PairBelow}
@@ -58,14 +58,16 @@ nextAt b j hs = isNext (countIn (b .pairs) 1 (hopAt hs j .sender) (hopAt hs j .r
 abbrev pub endAt : Bench → ℕ → List Hop → List ℕ → Settling
 endAt b j hs book = arriveEnd (b .totals) (b .tables) (b .messages) (b .pairs) (b .gauges) j hs book
 
-module _ (P : Plan) (forest : Forest P) (ms : List Message) (hs : List Hop) (ls : List (List ℕ))
-    (valid : Valid P forest (network ms hs ls))
-    (first : TakenFirst hs) (idle : (s r : ℕ) → Idle hs s r) (rest : List Hop) (rest′ : List ℕ) (j : ℕ) where
+module _ (L : Ledger) (ms : List Message) (hs : List Hop) (ls : List (List ℕ)) (valid : Valid (network L ms hs ls))
+    (idle : (s r : ℕ) → Idle hs s r) (rest : List Hop) (rest′ : List ℕ) (j : ℕ) where
   abbrev W : Network
-  W = network ms hs ls
+  W = network L ms hs ls
 
   abbrev b : Bench
-  b = benchOf P W
+  b = benchOf W
+
+  abbrev ts : List ℕ
+  ts = planTables (L .inUse)
 
   abbrev lent : List Hop
   lent = hopRecords W ++ rest
@@ -79,13 +81,13 @@ module _ (P : Plan) (forest : Forest P) (ms : List Message) (hs : List Hop) (ls 
   -- what an arrival of an untaken, unheld hop answers and leaves is the rule's outcome o: one that is only held, and one that is the next
   pub record Holds (o : Outcome) : Type 0 where
     pub answer : arriveAnswer HeldHop ≡ answerOf o
-    pub bench : b ≡ benchOf P (leftOf o)
+    pub bench : b ≡ benchOf (leftOf o)
     pub hops : setState j 1 lent ≡ hopRecords (leftOf o) ++ rest
     pub numbers : book ≡ logBook (leftOf o) ++ rest′
 
   pub record Arrives (o : Outcome) : Type 0 where
     pub answer : arriveAnswer (finishedReply (endAt b j lent book .arrival)) ≡ answerOf o
-    pub bench : arrivedBench b (endAt b j lent book) ≡ benchOf P (leftOf o)
+    pub bench : arrivedBench b (endAt b j lent book) ≡ benchOf (leftOf o)
     pub hops : endAt b j lent book .hops ≡ hopRecords (leftOf o) ++ rest
     pub numbers : endAt b j lent book .book ≡ logBook (leftOf o) ++ rest′
 
@@ -95,11 +97,15 @@ module _ (P : Plan) (forest : Forest P) (ms : List Message) (hs : List Hop) (ls 
     pub held : isClosed number (hopAt lent j) ≡ false → nextAt b j lent ≡ false → Holds o
     pub out : isClosed number (hopAt lent j) ≡ false → nextAt b j lent ≡ true → Arrives o
 
-  limits : Limits P W
-  limits = valid-limits P forest W valid
+  limits : Limits W
+  limits = valid-limits W valid
+
+  first : TakenFirst hs
+  unfolding hopsOf
+  first = valid-first W valid
 
   few-hops : length hs ≤ 2000
-  unfolding hopsOf messagesOf
+  unfolding hopsOf
   few-hops = le-trans (limits .hops) (limits .routes)
 
   unchanged : (o : Outcome) → leftOf o ≡ W → isClosed number (hopAt lent j) ≡ true
@@ -147,7 +153,7 @@ module _ (P : Plan) (forest : Forest P) (ms : List Message) (hs : List Hop) (ls 
         r = hopAt hs j .receiver
 
         abbrev W₁ : Network
-        W₁ = network ms (setState j 1 hs) ls
+        W₁ = network L ms (setState j 1 hs) ls
 
         to-s : s < 32
         unfolding hopsOf
@@ -221,12 +227,16 @@ module _ (P : Plan) (forest : Forest P) (ms : List Message) (hs : List Hop) (ls 
         not-next t e = eqb-false _ _ t (e ∙ sym sequence-is)
 
         numbers : Numbered hs
-        unfolding Valid
-        numbers = valid ms [] (sym (append-nil ms)) .numbers
+        unfolding hopsOf
+        numbers = valid-numbered W valid
 
-        held-valid : Valid P forest W₁
+        held-valid : Valid W₁
         unfolding Valid
-        held-valid = λ T after e. sound-held P forest T ms hs ls (valid T after e) j made (out-untaken (hopAt hs j) out)
+        held-valid = state-lawful L ms hs ls valid j 1 made (out-untaken (hopAt hs j) out) (omega arith)
+
+        held-numbers : Numbered (setState j 1 hs)
+        unfolding hopsOf
+        held-numbers = valid-numbered W₁ held-valid
 
         held-hops : setState j 1 lent ≡ hopRecords W₁ ++ rest
         unfolding hopRecords hopsOf
@@ -238,20 +248,20 @@ module _ (P : Plan) (forest : Forest P) (ms : List Message) (hs : List Hop) (ls 
 
         -- ---- the bench
 
-        hold-totals : totalsOf P W₁ ≡ totalsOf P W
-        unfolding totalsOf messagesOf hopsOf
+        hold-totals : totalsOf W₁ ≡ totalsOf W
+        unfolding totalsOf ledgerOf messagesOf hopsOf
         hold-totals = λ i. record {
           made = length-state j 1 hs i;
           taken = hold-taken-all j hs made out i;
           sent = length ms;
-          routed = routeTotal P ms;
+          routed = routeTotal (forestsOf L) ms;
         }
 
-        hold-bench : benchOf P W₁ ≡ b
-        unfolding benchOf messagesOf hopsOf logOf
+        hold-bench : benchOf W₁ ≡ b
+        unfolding benchOf ledgerOf messagesOf hopsOf logOf
         hold-bench = λ i. record {
           totals = hold-totals i;
-          tables = tablesAt P;
+          tables = ts;
           messages = messageList ms;
           pairs = pair-same _ _ (λ x y bx by. count-pair-state x y j 1 hs) i ∷ pair-same _ _ (λ x y bx by. hold-takes x y) i ∷ [];
           gauges = b .gauges;
@@ -259,21 +269,20 @@ module _ (P : Plan) (forest : Forest P) (ms : List Message) (hs : List Hop) (ls 
 
         -- ---- it is not the next of its pair: it is held
 
-        holds : isNext (pairTaken s r hs) (hopAt hs j) ≡ false → Holds (settle (length hs) P s r 0 W₁)
-        unfolding Valid leftOf answerOf tally arriveAnswer
+        holds : isNext (pairTaken s r hs) (hopAt hs j) ≡ false → Holds (settle (length hs) s r 0 W₁)
+        unfolding leftOf answerOf tally arriveAnswer
         holds t = subst Holds
-            (sym (idle-settle (length hs) P s r 0 ms (setState j 1 hs) ls (held-valid ms [] (sym (append-nil ms)) .numbers)
+            (sym (idle-settle (length hs) s r 0 L ms (setState j 1 hs) ls held-numbers
             (hold-idle s r hs numbers first j made out (own-pair (hopAt hs j)) (idle s r) (not-next t))))
             (record { answer = refl; bench = sym hold-bench; hops = held-hops; numbers = same-book })
 
         -- ---- it is: its pair is settled
 
         module _ (next : isNext (pairTaken s r hs) (hopAt hs j) ≡ true) where
-          begins : Before P forest W₁ s r (length hs) few-hops rest rest′ takes W₁ j 0
+          begins : Before L W₁ s r (length hs) few-hops rest rest′ takes W₁ j 0
           unfolding hopsOf PairBelow
           begins = record {
             valid = held-valid;
-            first = taken-first-hold j hs made out first;
             below = λ i b p. omega (arith, b, length-state j 1 hs);
             next = λ b. hold-next s r hs numbers first j made out (own-pair (hopAt hs j)) (is-next next);
             idle = λ over. absurd (omega (arith, over, made));
@@ -290,21 +299,21 @@ module _ (P : Plan) (forest : Forest P) (ms : List Message) (hs : List Hop) (ls 
           }
 
           E : Ends W₁ s r (length hs) rest rest′ takes
-              (settled (tablesAt P) (messageList ms) (length hs - j) (arrivalOf W₁ s r j (length hs) 0) (pairsOf (setState j 1 hs) takes)
+              (settled ts (messageList ms) (length hs - j) (arrivalOf W₁ s r j (length hs) 0) (pairsOf (setState j 1 hs) takes)
               (hopRecords W₁ ++ rest) (logBook W₁ ++ rest′))
-              (settle (length hs) P s r 0 W₁)
-          E = loops P forest W₁ s r (length hs) few-hops rest rest′ takes (length hs - j) (length hs) ms (setState j 1 hs) ls j 0 begins
+              (settle (length hs) s r 0 W₁)
+          E = loops L W₁ s r (length hs) few-hops rest rest′ takes (length hs - j) (length hs) ms (setState j 1 hs) ls j 0 begins
               (omega arith) (omega arith)
 
           end-is : endAt b j lent book ≡ settlingOf (E .state) s r (E .place) (length hs) (E .taken) rest rest′ takes
-          unfolding arriveEnd settledFrom arrivalOf benchOf messagesOf
+          unfolding arriveEnd settledFrom arrivalOf benchOf ledgerOf messagesOf
           end-is =
-              ap (λ (x : Arrival). settled (tablesAt P) (messageList ms) (x .end - x .at) x (b .pairs) (setState j 1 lent) book) start-is
-              ∙ ap (λ (l : List (List (List ℕ))). settled (tablesAt P) (messageList ms) (length hs - j)
+              ap (λ (x : Arrival). settled ts (messageList ms) (x .end - x .at) x (b .pairs) (setState j 1 lent) book) start-is
+              ∙ ap (λ (l : List (List (List ℕ))). settled ts (messageList ms) (length hs - j)
               (arrivalOf W₁ s r j (length hs) 0) l (setState j 1 lent) book) pairs-are
-              ∙ ap (λ (l : List Hop). settled (tablesAt P) (messageList ms) (length hs - j) (arrivalOf W₁ s r j (length hs) 0)
+              ∙ ap (λ (l : List Hop). settled ts (messageList ms) (length hs - j) (arrivalOf W₁ s r j (length hs) 0)
               (pairsOf (setState j 1 hs) takes) l book) held-hops
-              ∙ ap (settled (tablesAt P) (messageList ms) (length hs - j) (arrivalOf W₁ s r j (length hs) 0)
+              ∙ ap (settled ts (messageList ms) (length hs - j) (arrivalOf W₁ s r j (length hs) 0)
               (pairsOf (setState j 1 hs) takes) (hopRecords W₁ ++ rest)) same-book
               ∙ E .loop
 
@@ -319,6 +328,10 @@ module _ (P : Plan) (forest : Forest P) (ms : List Message) (hs : List Hop) (ls 
 
           S : Since W₁ W″ s r n
           S = E .since
+
+          same-ledger : ledgerOf W″ ≡ L
+          unfolding ledgerOf leftOf
+          same-ledger = ap (λ (o : Outcome). ledgerOf (leftOf o)) (sym (E .rule)) ∙ settle-ledger (length hs) s r 0 W₁
 
           own-total : pairTaken s r (hopsOf W″) ≡ pairTaken s r hs + n
           unfolding hopsOf
@@ -340,14 +353,14 @@ module _ (P : Plan) (forest : Forest P) (ms : List Message) (hs : List Hop) (ls 
           all-taken : countHops isTaken hs + n < 65536
           all-taken = omega (arith, total, count-length isTaken (hopsOf W″), E .few)
 
-          pairs-updated : addedIn (pairsOf (hopsOf W″) takes) 1 s r n ≡ benchOf P W″ .pairs
+          pairs-updated : addedIn (pairsOf (hopsOf W″) takes) 1 s r n ≡ benchOf W″ .pairs
           unfolding pairsOf benchOf hopsOf
           pairs-updated =
               pair-added _ 1 (λ x y. pairTaken x y hs) (λ x y. pairTaken x y (hopsOf W″)) s r n refl refl to-s to-r few-taken own-total
               (λ y ne. S .others s y (λ e f. ne f) ∙ hold-takes s y)
               (λ x y ne. S .others x y (λ e f. ne e) ∙ hold-takes x y)
 
-          gauges-updated : withColumn (b .gauges) 0 32 r (length (logOf r W″)) ≡ benchOf P W″ .gauges
+          gauges-updated : withColumn (b .gauges) 0 32 r (length (logOf r W″)) ≡ benchOf W″ .gauges
           unfolding withColumn benchOf logOf tabulate
           gauges-updated =
               append-nil (set (tabulate 32 (λ u. length (logOf u W))) r (length (logOf r W″)))
@@ -360,16 +373,20 @@ module _ (P : Plan) (forest : Forest P) (ms : List Message) (hs : List Hop) (ls 
             sent = b .totals .sent;
             routed = b .totals
                 .routed;
-          } ≡ totalsOf P W″
-          unfolding benchOf totalsOf messagesOf hopsOf
+          } ≡ totalsOf W″
+          unfolding benchOf totalsOf ledgerOf messagesOf hopsOf
           totals-updated = λ i. record {
             made = length (hopsOf W″);
             taken = (plus-small (countHops isTaken hs) n all-taken ∙ sym total) i;
             sent = length (sym (S .messages) i);
-            routed = routeTotal P (sym (S .messages) i);
+            routed = routeTotal (forestsOf (sym same-ledger i)) (sym (S .messages) i);
           }
 
-          messages-same : b .messages ≡ benchOf P W″ .messages
+          tables-same : b .tables ≡ benchOf W″ .tables
+          unfolding benchOf ledgerOf
+          tables-same = ap (λ (M : Ledger). planTables (M .inUse)) (sym same-ledger)
+
+          messages-same : b .messages ≡ benchOf W″ .messages
           unfolding benchOf messagesOf
           messages-same = ap messageList (sym (S .messages))
 
@@ -379,16 +396,16 @@ module _ (P : Plan) (forest : Forest P) (ms : List Message) (hs : List Hop) (ls 
               record { totals = b .totals; tables = b .tables; messages = b .messages; pairs = ps; gauges = b .gauges }
 
           abbrev Same : Network → Type 0
-          Same X = withPairs (pairsOf (hopsOf X) takes) ≡ benchOf P X
+          Same X = withPairs (pairsOf (hopsOf X) takes) ≡ benchOf X
 
-          bench-finished : arrivedBench b end ≡ benchOf P W″
+          bench-finished : arrivedBench b end ≡ benchOf W″
           unfolding finishedTotals finishedPairs finishedGauges settlingOf arrivalOf benchOf hopsOf
           bench-finished = ⊎-elim
               (λ (t : eqb n 0 ≡ true). simp t (subst Same (sym (S .none (eqb-true n 0 t)))
               (ap withPairs (sym pairs-are) ∙ sym hold-bench)))
               (λ (t : eqb n 0 ≡ false). simp t (λ i. record {
                 totals = totals-updated i;
-                tables = tablesAt P;
+                tables = tables-same i;
                 messages = messages-same i;
                 pairs = pairs-updated i;
                 gauges = gauges-updated i;
@@ -404,7 +421,7 @@ module _ (P : Plan) (forest : Forest P) (ms : List Message) (hs : List Hop) (ls 
               said (suc k) = ap (λ (t : Bool). arriveAnswer (refuse t HeldHop (TakenNumber (suc k))))
                   (ne-eqb (suc k) 0 (λ e. absurd (omega arith)))
 
-          arrives : Arrives (settle (length hs) P s r 0 W₁)
+          arrives : Arrives (settle (length hs) s r 0 W₁)
           unfolding leftOf answerOf settlingOf
           arrives = subst Arrives (sym (E .rule)) (record {
             answer = ap (λ (x : Settling). arriveAnswer (finishedReply (x .arrival))) end-is ∙ answers;
@@ -413,14 +430,14 @@ module _ (P : Plan) (forest : Forest P) (ms : List Message) (hs : List Hop) (ls 
             numbers = ap (λ (x : Settling). x .book) end-is;
           })
 
-        settles : Agree (settle (length hs) P s r 0 W₁)
+        settles : Agree (settle (length hs) s r 0 W₁)
         settles = record {
           shut = λ e. absurd (clash e (closed-is ∙ ap not out));
           held = λ _ t. holds (sym next-is ∙ t);
           out = λ _ t. arrives (sym next-is ∙ t);
         }
 
-    pub agrees : Agree (arrive P j W)
+    pub agrees : Agree (arrive j W)
     unfolding arrive refuse hold
     agrees = ⊎-elim
         (λ (t : leb (length hs) j ≡ true). simp t (not-made (leb-true (length hs) j t)))

@@ -12,13 +12,13 @@ use lib.Seq.{set-append-left, take-append-le, drop-append-add, take-append-seam}
 use Rattle.sets.proofs.Bools.{cond-true, and-both}
 use Rattle.layout.specs.Tables.{tabulate}
 use Rattle.layout.proofs.Tables.{same-tables}
-use Rattle.model.specs.Network.{Plan, fresh, noHop, noMessage, messagesOf, hopsOf, logOf, sumOf, countHops, pairCount, pairTaken}
+use Rattle.model.specs.Network.{Plan, freshOn, noHop, noMessage, ledgerOf, messagesOf, hopsOf, logOf, sumOf, countHops, pairCount}
+use Rattle.model.specs.Network.{pairTaken}
 use Rattle.model.specs.Rules.{routeTotal}
-use Rattle.forest_tables.specs.Computed.{tablesOf}
 use Rattle.bench_store.specs.Values.{noCounts, logged}
 use Rattle.bench_promises.specs.Machine.{freshBench}
 use Rattle.bench_promises.specs.State.{padded, joined, hopRecords, logBook, pairTable, messageColumn, messageList, totalsOf}
-use Rattle.bench_promises.specs.State.{benchOf}
+use Rattle.bench_promises.specs.State.{planTables, benchOf}
 use Rattle.bench_promises.proofs.Padding.{padded-none, padded-length, padded-snoc, getD-constant, tabulate-constant}
 
 module _ {A : Type 0} where
@@ -128,19 +128,19 @@ book-part f u rest b short =
 
 -- ---- the fresh state
 
-fresh-log : (u : ℕ) → logOf u fresh ≡ []
-unfolding logOf fresh
-fresh-log u = getD-constant 32 [] u
+fresh-log : (P : Plan) (u : ℕ) → logOf u (freshOn P) ≡ []
+unfolding logOf freshOn
+fresh-log P u = getD-constant 32 [] u
 
-pub fresh-hops : hopRecords fresh ≡ replicate 2000 noHop
-unfolding hopRecords hopsOf fresh
-fresh-hops = padded-none 2000 noHop
+pub fresh-hops : (P : Plan) → hopRecords (freshOn P) ≡ replicate 2000 noHop
+unfolding hopRecords hopsOf freshOn
+fresh-hops P = padded-none 2000 noHop
 
-pub fresh-book : logBook fresh ≡ replicate 6400 0
+pub fresh-book : (P : Plan) → logBook (freshOn P) ≡ replicate 6400 0
 unfolding logBook
-fresh-book =
-    joined-same 32 (λ u. padded 200 0 (logOf u fresh)) (λ u. replicate 200 0)
-    (λ u. ap (padded 200 0) (fresh-log u) ∙ padded-none 200 0)
+fresh-book P =
+    joined-same 32 (λ u. padded 200 0 (logOf u (freshOn P))) (λ u. replicate 200 0)
+    (λ u. ap (padded 200 0) (fresh-log P u) ∙ padded-none 200 0)
     ∙ joined-constant 32 200 0
 
 -- a table whose entries are all x
@@ -159,12 +159,12 @@ fresh-messages =
     (λ i. none i ++ (none i ++ none i)) ∙ ap (λ (l : List ℕ). replicate 200 0 ++ l) (replicate-append-replicate 200 200 0) ∙
     replicate-append-replicate 200 400 0
 
-pub fresh-bench : (P : Plan) → benchOf P fresh ≡ freshBench (P .units) (P .count) (P .groups) (P .parents)
-unfolding benchOf totalsOf freshBench hopsOf messagesOf fresh countHops sumOf routeTotal pairCount pairTaken
+pub fresh-bench : (P : Plan) → benchOf (freshOn P) ≡ freshBench (P .units) (P .count) (P .groups) (P .parents)
+unfolding benchOf totalsOf freshBench ledgerOf hopsOf messagesOf freshOn countHops sumOf routeTotal pairCount pairTaken
 fresh-bench P = λ i. record {
   totals = record { made = 0; taken = 0; sent = 0; routed = 0 };
-  tables = tablesOf (P .units) (P .count) (P .groups) (P .parents);
+  tables = planTables P;
   messages = fresh-messages i;
   pairs = none-counted (λ s r. pairCount s r []) (λ s r. refl) i ∷ none-counted (λ s r. pairTaken s r []) (λ s r. refl) i ∷ [];
-  gauges = all-same 32 (λ u. length (logOf u fresh)) 0 (λ u. ap length (fresh-log u)) i;
+  gauges = all-same 32 (λ u. length (logOf u (freshOn P))) 0 (λ u. ap length (fresh-log P u)) i;
 }

@@ -2,7 +2,7 @@
 use mathlib.Core.Path.{_≡_, refl, sym, ap, subst, _∙_}
 use mathlib.Core.Logic.{⊎-elim, by-cases}
 use mathlib.Core.Bool.{Bool, true, false, _&&_}
-use mathlib.Core.List.{List, [], _∷_, _++_, append-nil}
+use mathlib.Core.List.{List, [], _∷_, _++_}
 use Prim.Native.Nat.{ℕ, suc, _-_, _≤_, _<_, _^_}
 use native.Mathlib.Nat.{le-trans}
 use native.Mathlib.Numerals.{add-one}
@@ -19,17 +19,17 @@ use Rattle.forest.specs.Forest.{parent}
 use Rattle.forest.specs.Claims.{Above, itself, Acyclic}
 use Rattle.model.specs.declared.Hop.{Hop}
 use Rattle.model.specs.declared.Message.{Message}
-use Rattle.model.specs.Network.{Plan, groupOf, routeOf, Network, network, noHop, messageAt, hopAt, messagesOf, hopsOf, logOf, withState}
-use Rattle.model.specs.Network.{setState, pairCount, pairTaken}
+use Rattle.model.specs.Network.{Plan, groupOf, routeOf, Ledger, Network, network, noHop, messageAt, hopAt, ledgerOf, messagesOf, hopsOf}
+use Rattle.model.specs.Network.{logOf, isTaken, withState, setState, pairCount, pairTaken}
 use Rattle.model.specs.Rules.{childrenOn, forward, logged, takeHop}
 use Rattle.model.specs.Claims.{Limits}
 use Rattle.model.proofs.Hops.{length-snoc, length-state}
-use Rattle.model.proofs.Sequences.{Next, pair-ends}
+use Rattle.model.proofs.Sequences.{Next, pair-ends, held-untaken}
 use Rattle.model.proofs.Subtrees.{children-in}
 use Rattle.model.proofs.Progress.{Apart, count-pair-state, take-taken, forward-count-apart}
 use Rattle.model.proofs.Sound.{Forest}
-use Rattle.model.proofs.Runs.{Valid, take-valid}
-use Rattle.model.proofs.Theorems.{valid-limits}
+use Rattle.model.proofs.Networks.{Valid, own-sound, take-lawful}
+use Rattle.model.proofs.Theorems.{valid-limits, valid-forest, valid-in-use, valid-group}
 use Rattle.forest_tables.specs.Computed.{isChild, childrenOf, groupIn, routeIn, childrenIn}
 use Rattle.forest_tables.proofs.Columns.{group-in, route-in, children-in as children-column}
 use Rattle.hops.specs.Access.{Forwarding, withPairs, forwarded, forwardedHops}
@@ -37,11 +37,10 @@ use Rattle.bench_promises.specs.declared.arrival.Arrival.{Arrival}
 use Rattle.bench_promises.specs.declared.arrival.Delivery.{Delivery}
 use Rattle.bench_promises.specs.Machine.{deliveryTo, logCopy, outgoing, longerBy, afterCopy, deliveryAt, forwarding, takeArrival}
 use Rattle.bench_promises.specs.Machine.{takePairs, takeHops, takeBook}
-use Rattle.bench_promises.specs.State.{padded, logBook, messageList}
+use Rattle.bench_promises.specs.State.{padded, logBook, messageList, planTables}
 use Rattle.bench_promises.proofs.Padding.{plus-small, padded-length, padded-set, padded-at, append-set, append-at, pair-same}
 use Rattle.bench_promises.proofs.Padding.{group-at}
 use Rattle.bench_promises.proofs.Books.{book-log, joined-same}
-use Rattle.bench_promises.proofs.Sends.{tablesAt}
 use Rattle.bench_promises.proofs.Forwards.{rising-same, membersOf, pairsOf, forwardingOf, forwarded-all, listed-all}
 
 -- an arrival from s to r that has taken n copies and holds the place `at` of the next, as the state W tells it
@@ -95,11 +94,21 @@ child-apart P forest way s r c i e q =
 
 -- ---- the copy
 
-module _ (P : Plan) (forest : Forest P) (ms : List Message) (hs : List Hop) (ls : List (List ℕ))
-    (valid : Valid P forest (network ms hs ls))
+module _ (L : Ledger) (ms : List Message) (hs : List Hop) (ls : List (List ℕ)) (valid : Valid (network L ms hs ls))
     (s r j : ℕ) (N : Next s r hs j) (rest : List Hop) (rest′ : List ℕ) (t : List (List ℕ)) (end n : ℕ) (few : n < 65535) where
+  -- the message is of the forest in use
+  abbrev P : Plan
+  P = L .inUse
+
   abbrev W : Network
-  W = network ms hs ls
+  W = network L ms hs ls
+
+  forest : Forest P
+  unfolding ledgerOf
+  forest = valid-forest W valid
+
+  untaken : isTaken (hopAt hs j) ≡ false
+  untaken = held-untaken (hopAt hs j) (N .held)
 
   abbrev m : ℕ
   m = hopAt hs j .message
@@ -117,32 +126,35 @@ module _ (P : Plan) (forest : Forest P) (ms : List Message) (hs : List Hop) (ls 
   ls′ = logged (member (groupOf P g) r) r m ls
 
   abbrev W′ : Network
-  W′ = network ms hs′ ls′
+  W′ = network L ms hs′ ls′
 
   to-r : hopAt hs j .receiver ≡ r
   to-r = pair-ends s r (hopAt hs j) (N .pair) .1
 
   -- the rule's next state
-  pub copy-state : takeHop P j W ≡ W′
-  unfolding takeHop
-  copy-state = ap (λ (u : ℕ). network ms (forward u m (childrenOn (P .parents) way u) (setState j 2 hs))
-      (logged (member (groupOf P g) u) u m ls)) to-r
+  pub copy-state : takeHop j W ≡ W′
+  unfolding takeHop ledgerOf messagesOf hopsOf
+  copy-state =
+      let left : Plan → ℕ → Network = λ Q u. network L ms (forward u m (childrenOn (Q .parents) (routeOf Q g) u) (setState j 2 hs))
+      (logged (member (groupOf Q g) u) u m ls) in
+      ap (λ (Q : Plan). left Q (hopAt hs j .receiver)) (valid-in-use W valid j (N .within) untaken) ∙ ap (left P) to-r
 
-  pub copy-valid : Valid P forest W′
-  copy-valid = subst (Valid P forest) copy-state (take-valid P forest ms hs ls s r j valid N)
+  pub copy-valid : Valid W′
+  unfolding Valid
+  copy-valid = subst Valid copy-state (take-lawful L ms hs ls valid s r j N)
 
-  before : Limits P W
-  before = valid-limits P forest W valid
+  before : Limits W
+  before = valid-limits W valid
 
-  after : Limits P W′
-  after = valid-limits P forest W′ copy-valid
+  after : Limits W′
+  after = valid-limits W′ copy-valid
 
   few-hops : length hs ≤ 2000
-  unfolding hopsOf messagesOf
+  unfolding hopsOf
   few-hops = le-trans (before .hops) (before .routes)
 
   pub few-after : length hs′ ≤ 2000
-  unfolding hopsOf messagesOf
+  unfolding hopsOf
   few-after = le-trans (after .hops) (after .routes)
 
   unit : r < 32
@@ -150,16 +162,14 @@ module _ (P : Plan) (forest : Forest P) (ms : List Message) (hs : List Hop) (ls 
   unit = subst (λ (u : ℕ). u < 32) to-r (before .records j (N .within) .receiver)
 
   sent-group : g < P .count
-  unfolding hopsOf messagesOf Valid
-  sent-group =
-      let number = before .records j (N .within) .message in
-      valid ms [] (sym (append-nil ms)) .admitted .groups m (number .0) (number .1)
+  unfolding ledgerOf hopsOf messagesOf
+  sent-group = valid-group W valid j (N .within) untaken
 
   abbrev a : Arrival
   a = arrivalOf W s r j end n
 
   abbrev ts : List ℕ
-  ts = tablesAt P
+  ts = planTables P
 
   abbrev ns : List ℕ
   ns = messageList ms
@@ -227,7 +237,7 @@ module _ (P : Plan) (forest : Forest P) (ms : List Message) (hs : List Hop) (ls 
 
   rows : length ls ≡ 32
   unfolding Valid
-  rows = valid ms [] (sym (append-nil ms)) .rows
+  rows = own-sound L ms hs ls valid .rows
 
   pub log-same : (u : ℕ) → (u ≡ r → ⊥) → logOf u W′ ≡ logOf u W
   unfolding logOf logged

@@ -13,17 +13,14 @@ use denote.Ref.{RefT}
 use Rattle.sets.proofs.Bools.{either, clash, or-left, or-right}
 use Rattle.layout.specs.Tables.{tabulate}
 use Rattle.model.specs.declared.Hop.{Hop}
-use Rattle.model.specs.Network.{Plan, Network, network, noHop, hopAt, hopsOf, logOf, isTaken, setState, sumOf, bit, countHops}
+use Rattle.model.specs.Network.{Plan, Network, network, noHop, hopAt, ledgerOf, planInUse, hopsOf, logOf, isTaken, setState, sumOf, bit}
+use Rattle.model.specs.Network.{countHops}
 use Rattle.model.specs.Rules.{Outcome, Refused, refuse, refused, answerOf, leftOf, send, arrive, allTaken, quiescent}
 use Rattle.model.specs.Calls.{log, Rest}
-use Rattle.model.specs.Claims.{Limits}
 use Rattle.model.proofs.Hops.{count-length}
-use Rattle.model.proofs.Sound.{Forest}
-use Rattle.model.proofs.Planning.{planned-forest}
 use Rattle.model.proofs.Idle.{Idle}
-use Rattle.model.proofs.Runs.{Valid}
-use Rattle.model.proofs.Theorems.{limits}
-use Rattle.model.proofs.Progress.{TakenFirst, run-valid, run-idle, run-taken-first}
+use Rattle.model.proofs.Networks.{Valid}
+use Rattle.model.proofs.Theorems.{valid-limits, valid-forest, run-valid, run-idle}
 use Rattle.forest_tables.specs.Computed.{unitCount}
 use Rattle.forest_tables.proofs.Columns.{units-in}
 use Rattle.bench_store.specs.Values.{filled, columnAt}
@@ -53,7 +50,7 @@ pub fresh-promise : (n c : ℕ) (gs ps : List ℕ) (hops : List Hop) (book : Lis
     → FreshPromise n c gs ps hops book (cond (isShort (length hops) (length book)) FreshTooShort Made) (freshBench n c gs ps)
     (freshHops hops book) (freshBook hops book)
 unfolding freshHops freshBook freshAnswer isShort filled
-fresh-promise n c gs ps hops book = record {
+fresh-promise n c gs ps hops book = let P : Plan = record { units = n; count = c; groups = gs; parents = ps } in record {
   short = λ s.
       let t = is-short s in (
         ap (λ (x : Bool). freshAnswer (cond x FreshTooShort Made)) t,
@@ -65,12 +62,12 @@ fresh-promise n c gs ps hops book = record {
       w′ in (
         ap (λ (x : Bool). freshAnswer (cond x FreshTooShort Made)) t,
         ap (λ (x : Bool). filled (cond x 0 2000) noHop hops) t ∙ filled-whole 2000 noHop hops w ∙ ap
-            (λ (l : List Hop). l ++ drop 2000 hops) (sym fresh-hops),
+            (λ (l : List Hop). l ++ drop 2000 hops) (sym (fresh-hops P)),
         ap (λ (x : Bool). filled (cond x 0 6400) 0 book) t ∙ filled-whole 6400 0 book w′
             ∙ ap (λ (l : List ℕ). l ++ drop 6400 book)
-            (sym fresh-book),
+            (sym (fresh-book P)),
       );
-  bench = sym (fresh-bench (record { units = n; count = c; groups = gs; parents = ps }));
+  bench = sym (fresh-bench P);
 }
   where
     is-short : (length hops < 2000) ⊎ (length book < 6400) → isShort (length hops) (length book) ≡ true
@@ -97,27 +94,28 @@ unfolding sendRefusal refuse
 short-send b s g hops l = simp (lt-ltb (length hops) 2000 l) refl
 
 -- where the bench and the lent hops are those of a state, what is computed and the rule agree
-module _ (P : Plan) (forest : Forest P) (s g w : ℕ) (hops : List Hop) where
+module _ (s g w : ℕ) (hops : List Hop) where
   abbrev Refuses : Bench → List Hop → Network → Type 0
-  Refuses b l W = eqb (sendNumber b s g l) 0 ≡ false → SentAs P (send P s g w W) hops (sentReply (b .totals) (sendNumber b s g l)) b l
+  Refuses b l W = eqb (sendNumber b s g l) 0 ≡ false → SentAs (send s g w W) hops (sentReply (b .totals) (sendNumber b s g l)) b l
 
   abbrev Sends : Bench → List Hop → Network → Type 0
-  Sends b l W = eqb (sendNumber b s g l) 0 ≡ true → SentAs P (send P s g w W) hops (sentReply (b .totals) 0) (recordedBench b s g w)
+  Sends b l W = eqb (sendNumber b s g l) 0 ≡ true → SentAs (send s g w W) hops (sentReply (b .totals) 0) (recordedBench b s g w)
       (set l (b .totals .made) (firstHop (b .totals) (b .tables) s g (sequenceOf (b .tables) s g (b .pairs))))
 
-  send-as : (W : Network) → Limits P W → (b : Bench) → b ≡ benchOf P W → OfHops W hops → Refuses b hops W × Sends b hops W
-  unfolding benchOf refused leftOf answerOf
-  send-as (network ms hs ls) within b at of =
-      let W = network ms hs ls in
+  send-as : (W : Network) → Valid W → (b : Bench) → b ≡ benchOf W → OfHops W hops → Refuses b hops W × Sends b hops W
+  unfolding benchOf ledgerOf refused leftOf answerOf
+  send-as (network L ms hs ls) valid b at of =
+      let W = network L ms hs ls in
       let e = lent-hops W hops of in
-      let G = S.agrees P forest ms hs ls within (drop 2000 hops) s g w (subst (λ (l : List Hop). 2000 ≤ length l) (sym e) (of .whole)) in
+      let G = S.agrees L (valid-forest W valid) ms hs ls (valid-limits W valid) (drop 2000 hops) s g w
+      (subst (λ (l : List Hop). 2000 ≤ length l) (sym e) (of .whole)) in
       subst (λ (x : Bench). Refuses x hops W × Sends x hops W) (sym at)
-      (subst (λ (l : List Hop). Refuses (benchOf P W) l W × Sends (benchOf P W) l W) e (
+      (subst (λ (l : List Hop). Refuses (benchOf W) l W × Sends (benchOf W) l W) e (
         (λ none.
             let x = G .turned none in
             record {
               answer = x .1 ∙ ap answerOf (sym (x .0));
-              bench = ap (λ (o : Outcome). benchOf P (leftOf o)) (sym (x .0));
+              bench = ap (λ (o : Outcome). benchOf (leftOf o)) (sym (x .0));
               records = ap (λ (o : Outcome). hopRecords (leftOf o) ++ drop 2000 hops) (sym (x .0));
             }),
         (λ some. let x = G .sent some in record { answer = x .answer; bench = x .bench; records = x .hops }),
@@ -130,7 +128,7 @@ unfolding after sentReply sendAnswer refuse
 send-refused b s g w hops none = record {
   refused = λ number _. (refl, refl);
   short = λ l. ap (λ (k : ℕ). sendAnswer (sentReply (b .totals) k)) (short-send b s g hops l);
-  rule = λ P planned cs at of. send-as P (planned-forest P planned) s g w hops (after P cs) (limits P planned cs) b at of .0 none;
+  rule = λ P planned cs at of. send-as s g w hops (after P cs) (run-valid P planned cs) b at of .0 none;
 }
 
 -- one that is not turned away
@@ -141,7 +139,7 @@ unfolding after sentReply sendAnswer refuse
 send-taken b s g w hops some = record {
   refused = λ number e. let z : _≡_ {A = ℕ} 0 1 = cc in absurd (omega arith);
   short = λ l. absurd (clash some (ap (λ (k : ℕ). eqb k 0) (short-send b s g hops l)));
-  rule = λ P planned cs at of. send-as P (planned-forest P planned) s g w hops (after P cs) (limits P planned cs) b at of .1 some;
+  rule = λ P planned cs at of. send-as s g w hops (after P cs) (run-valid P planned cs) b at of .1 some;
 }
 
 -- there is an answer for every input
@@ -169,43 +167,42 @@ short-arrive made j hops book s = ⊎-elim
     one true = refl
     one false = refl
 
-module _ (P : Plan) (forest : Forest P) (j : ℕ) (hops : List Hop) (book : List ℕ) where
+module _ (j : ℕ) (hops : List Hop) (book : List ℕ) where
   abbrev Closes : Bench → List Hop → List ℕ → Network → Type 0
-  Closes b l k W = isClosed (arriveNumber b j l k) (hopAt l j) ≡ true → ArrivedAs P (arrive P j W) hops book
+  Closes b l k W = isClosed (arriveNumber b j l k) (hopAt l j) ≡ true → ArrivedAs (arrive j W) hops book
       (closedReply (arriveNumber b j l k)) b l k
 
   abbrev Open : Bench → List Hop → List ℕ → Type 0
   Open b l k = isClosed (arriveNumber b j l k) (hopAt l j) ≡ false
 
   abbrev Holds : Bench → List Hop → List ℕ → Network → Type 0
-  Holds b l k W = Open b l k → nextAt b j l ≡ false → ArrivedAs P (arrive P j W) hops book Held b (setState j 1 l) k
+  Holds b l k W = Open b l k → nextAt b j l ≡ false → ArrivedAs (arrive j W) hops book Held b (setState j 1 l) k
 
   abbrev Arrives : Bench → List Hop → List ℕ → Network → Type 0
   Arrives b l k W = Open b l k → nextAt b j l ≡ true
-      → ArrivedAs P (arrive P j W) hops book (finishedReply (endAt b j l k .arrival)) (arrivedBench b (endAt b j l k))
+      → ArrivedAs (arrive j W) hops book (finishedReply (endAt b j l k .arrival)) (arrivedBench b (endAt b j l k))
       (endAt b j l k .hops) (endAt b j l k .book)
 
   abbrev All : Bench → List Hop → List ℕ → Network → Type 0
   All b l k W = Closes b l k W × Holds b l k W × Arrives b l k W
 
-  arrive-as : (W : Network) → Valid P forest W → TakenFirst (hopsOf W) → ((s r : ℕ) → Idle (hopsOf W) s r)
-      → (b : Bench) → b ≡ benchOf P W
+  arrive-as : (W : Network) → Valid W → ((s r : ℕ) → Idle (hopsOf W) s r) → (b : Bench) → b ≡ benchOf W
       → OfHops W hops → OfBook W book → All b hops book W
   unfolding benchOf totalsOf hopsOf
-  arrive-as (network ms hs ls) valid first idle b at of of′ =
-      let W = network ms hs ls in
+  arrive-as (network L ms hs ls) valid idle b at of of′ =
+      let W = network L ms hs ls in
       let e = lent-hops W hops of in
       let e′ = lent-book W book of′ in
-      let G = A.agrees P forest ms hs ls valid first idle (drop 2000 hops) (drop 6400 book) j
+      let G = A.agrees L ms hs ls valid idle (drop 2000 hops) (drop 6400 book) j
       (subst (λ (l : List Hop). 2000 ≤ length l) (sym e) (of .whole))
       (subst (λ (l : List ℕ). 6400 ≤ length l) (sym e′) (of′ .whole)) in
-      subst (λ (x : Bench). All x hops book W) (sym at) (subst (λ (k : List ℕ). All (benchOf P W) hops k W) e′
-      (subst (λ (l : List Hop). All (benchOf P W) l (logBook W ++ drop 6400 book) W) e (
+      subst (λ (x : Bench). All x hops book W) (sym at) (subst (λ (k : List ℕ). All (benchOf W) hops k W) e′
+      (subst (λ (l : List Hop). All (benchOf W) l (logBook W ++ drop 6400 book) W) e (
         (λ shut.
             let x = G .shut shut in
             record {
               answer = x .1;
-              bench = ap (benchOf P) (sym (x .0));
+              bench = ap benchOf (sym (x .0));
               records = ap (λ (X : Network). hopRecords X ++ drop 2000 hops) (sym (x .0));
               numbers = ap (λ (X : Network). logBook X ++ drop 6400 book) (sym (x .0));
             }),
@@ -221,8 +218,8 @@ unfolding after closedReply arriveAnswer refuse
 arrive-closed b j hops book shut = record {
   refused = λ number _. (refl, refl, refl);
   short = λ l. ap (λ (k : ℕ). arriveAnswer (closedReply k)) (short-arrive (b .totals .made) j (length hops) (length book) l);
-  rule = λ P planned cs at of of′. arrive-as P (planned-forest P planned) j hops book (after P cs) (run-valid P planned cs)
-      (run-taken-first P planned cs) (run-idle P planned cs) b at of of′ .0 shut;
+  rule = λ P planned cs at of of′. arrive-as j hops book (after P cs) (run-valid P planned cs) (run-idle P planned cs)
+      b at of of′ .0 shut;
 }
 
 -- an arrival that was not turned away is not answered with a refusal
@@ -246,8 +243,8 @@ module _ (b : Bench) (j : ℕ) (hops : List Hop) (book : List ℕ) (out : isClos
   arrive-held t = record {
     refused = λ number e. let z : _≡_ {A = ℕ} 0 1 = cc in absurd (omega arith);
     short = λ l. absurd (long l);
-    rule = λ P planned cs at of of′. arrive-as P (planned-forest P planned) j hops book (after P cs) (run-valid P planned cs)
-        (run-taken-first P planned cs) (run-idle P planned cs) b at of of′ .1 out t;
+    rule = λ P planned cs at of of′. arrive-as j hops book (after P cs) (run-valid P planned cs) (run-idle P planned cs)
+        b at of of′ .1 out t;
   }
 
   pub arrive-open : nextAt b j hops ≡ true → ArrivePromise b j hops book (finishedReply (endAt b j hops book .arrival))
@@ -256,8 +253,8 @@ module _ (b : Bench) (j : ℕ) (hops : List Hop) (book : List ℕ) (out : isClos
   arrive-open t = record {
     refused = λ number e. absurd (never-refused (endAt b j hops book .arrival) number e);
     short = λ l. absurd (long l);
-    rule = λ P planned cs at of of′. arrive-as P (planned-forest P planned) j hops book (after P cs) (run-valid P planned cs)
-        (run-taken-first P planned cs) (run-idle P planned cs) b at of of′ .2 out t;
+    rule = λ P planned cs at of of′. arrive-as j hops book (after P cs) (run-valid P planned cs) (run-idle P planned cs)
+        b at of of′ .2 out t;
   }
 
 pub arrive-some : (b : Bench) (j : ℕ) (hops : List Hop) (book : List ℕ)
@@ -299,76 +296,79 @@ rest-promise b hops = record {
 -- ---- log
 
 -- the number of units, and the length of a unit's log
-units-at : (P : Plan) (W : Network) → unitCount (benchOf P W .tables) ≡ P .units
+units-at : (W : Network) → unitCount (benchOf W .tables) ≡ planInUse W .units
 unfolding benchOf
-units-at P W = units-in (P .units) (P .count) (P .groups) (P .parents)
+units-at W = let P = planInUse W in units-in (P .units) (P .count) (P .groups) (P .parents)
 
-length-at : (P : Plan) (W : Network) (u : ℕ) → u < 32 → columnAt (benchOf P W .gauges) 0 32 u ≡ length (logOf u W)
+length-at : (W : Network) (u : ℕ) → u < 32 → columnAt (benchOf W .gauges) 0 32 u ≡ length (logOf u W)
 unfolding columnAt benchOf tabulate
-length-at P W u b = tabulate-at 32 (λ v. length (logOf v W)) u 0 b
+length-at W u b = tabulate-at 32 (λ v. length (logOf v W)) u 0 b
 
 -- the part of a bench
 abbrev partOf : Bench → ℕ → List ℕ → List ℕ
 partOf b u book = logPart (b .tables) (b .gauges) u book
 
-log-as : (P : Plan) → Forest P → (W : Network) → Limits P W → (u : ℕ) (book : List ℕ) → OfBook W book
-    → (partOf (benchOf P W) u book ≡ handedBack (log P u (length book) W))
-    × (partOf (benchOf P W) u book ≡ take (length (partOf (benchOf P W) u book)) (drop (u * 200) book))
+log-as : (W : Network) → Valid W → (u : ℕ) (book : List ℕ) → OfBook W book
+    → (partOf (benchOf W) u book ≡ handedBack (log u (length book) W))
+    × (partOf (benchOf W) u book ≡ take (length (partOf (benchOf W) u book)) (drop (u * 200) book))
 unfolding logPart logCount logStart unlessRefused refuse log handedBack logBook
-log-as P forest W limits u book of = simp (le-ltb (length book) 6400 (of .whole), units-at P W) (⊎-elim
-    (λ (t : leb (P .units) u ≡ true). simp t (refl, refl))
-    (λ (t : leb (P .units) u ≡ false).
-    let unit = leb-false (P .units) u t in
-    let below : u < 32 = le-trans unit (forest .few) in
+log-as W valid u book of = simp (le-ltb (length book) 6400 (of .whole), units-at W) (⊎-elim
+    (λ (t : leb (planInUse W .units) u ≡ true). simp t (refl, refl))
+    (λ (t : leb (planInUse W .units) u ≡ false).
+    let limits = valid-limits W valid in
+    let unit = leb-false (planInUse W .units) u t in
+    let below : u < 32 = le-trans unit (valid-forest W valid .few) in
     let part : take (length (logOf u W)) (drop (u * 200) book) ≡ logOf u W =
     subst (λ (l : List ℕ). take (length (logOf u W)) (drop (u * 200) l) ≡ logOf u W) (lent-book W book of)
     (book-part (λ v. logOf v W) u (drop 6400 book) below (limits .log)) in
-    simp t (simp (lt-leb 32 u below) (simp (length-at P W u below)
+    simp t (simp (lt-leb 32 u below) (simp (length-at W u below)
     (simp (le-ltb 200 (length (logOf u W)) (limits .log u))
     (part, sym (ap (λ (l : List ℕ). take (length l) (drop (u * 200) book)) part))))))
-    (either (leb (P .units) u)))
+    (either (leb (planInUse W .units) u)))
 
 pub log-promise : (b : Bench) (u : ℕ) (book : List ℕ) → LogPromise b u book (logPart (b .tables) (b .gauges) u book)
 unfolding after logPart logCount logStart unlessRefused refuse
 log-promise b u book = record {
   short = λ l. simp (lt-ltb (length book) 6400 l) refl;
-  rule = λ P planned cs e of. subst (λ (b : Bench). (partOf b u book ≡ handedBack (log P u (length book) (after P cs)))
+  rule = λ P planned cs e of. subst (λ (b : Bench). (partOf b u book ≡ handedBack (log u (length book) (after P cs)))
       × (partOf b u book ≡ take (length (partOf b u book)) (drop (u * 200) book))) (sym e)
-      (log-as P (planned-forest P planned) (after P cs) (limits P planned cs) u book of);
+      (log-as (after P cs) (run-valid P planned cs) u book of);
 }
 
-length-as : (P : Plan) → Forest P → (W : Network) (u : ℕ) (book : List ℕ) → OfBook W book
-    → logAnswer (logReply (benchOf P W .tables) (benchOf P W .gauges) u (length book)) ≡ lengthAnswer (log P u (length book) W)
+length-as : (W : Network) → Valid W → (u : ℕ) (book : List ℕ) → OfBook W book
+    → logAnswer (logReply (benchOf W .tables) (benchOf W .gauges) u (length book)) ≡ lengthAnswer (log u (length book) W)
 unfolding logReply refuse log lengthAnswer logAnswer
-length-as P forest W u book of = simp (le-ltb (length book) 6400 (of .whole), units-at P W) (⊎-elim
-    (λ (t : leb (P .units) u ≡ true). simp t refl)
-    (λ (t : leb (P .units) u ≡ false). simp t (ap Length (length-at P W u (le-trans (leb-false (P .units) u t) (forest .few)))))
-    (either (leb (P .units) u)))
+length-as W valid u book of = simp (le-ltb (length book) 6400 (of .whole), units-at W) (⊎-elim
+    (λ (t : leb (planInUse W .units) u ≡ true). simp t refl)
+    (λ (t : leb (planInUse W .units) u ≡ false).
+    simp t (ap Length (length-at W u (le-trans (leb-false (planInUse W .units) u t) (valid-forest W valid .few)))))
+    (either (leb (planInUse W .units) u)))
 
 pub length-promise : (b : Bench) (u : ℕ) (book : List ℕ) → LengthPromise b u book (logReply (b .tables) (b .gauges) u (length book))
-unfolding logReply refuse logAnswer
+unfolding after logReply refuse logAnswer
 length-promise b u book = record {
   short = λ l. simp (lt-ltb (length book) 6400 l) refl;
   rule = λ P planned cs e of. subst
-      (λ (b : Bench). logAnswer (logReply (b .tables) (b .gauges) u (length book)) ≡ lengthAnswer (log P u (length book) (after P cs)))
+      (λ (b : Bench). logAnswer (logReply (b .tables) (b .gauges) u (length book)) ≡ lengthAnswer (log u (length book) (after P cs)))
       (sym e)
-      (length-as P (planned-forest P planned) (after P cs) u book of);
+      (length-as (after P cs) (run-valid P planned cs) u book of);
 }
 
 -- where the part lies, from where its start lies
-start-is : (P : Plan) → Forest P → (W : Network) (u book : ℕ) → 6400 ≤ book → u < P .units
-    → logStart (benchOf P W .tables) u book ≡ u * 200
+start-is : (W : Network) → Valid W → (u book : ℕ) → 6400 ≤ book → u < planInUse W .units
+    → logStart (benchOf W .tables) u book ≡ u * 200
 unfolding logStart unlessRefused refuse
-start-is P forest W u book whole unit =
-    simp (le-ltb book 6400 whole, units-at P W) (simp (lt-leb (P .units) u unit) (simp (lt-leb 32 u (le-trans unit (forest .few))) refl))
+start-is W valid u book whole unit =
+    simp (le-ltb book 6400 whole, units-at W)
+    (simp (lt-leb (planInUse W .units) u unit) (simp (lt-leb 32 u (le-trans unit (valid-forest W valid .few))) refl))
 
 start-short : (ts : List ℕ) (u book : ℕ) → book < 6400 → logStart ts u book ≡ 0
 unfolding logStart unlessRefused refuse
 start-short ts u book l = simp (lt-ltb book 6400 l) refl
 
-start-none : (P : Plan) (W : Network) (u book : ℕ) → 6400 ≤ book → P .units ≤ u → logStart (benchOf P W .tables) u book ≡ 0
+start-none : (W : Network) (u book : ℕ) → 6400 ≤ book → planInUse W .units ≤ u → logStart (benchOf W .tables) u book ≡ 0
 unfolding logStart unlessRefused refuse
-start-none P W u book whole over = simp (le-ltb book 6400 whole, units-at P W) (simp (le-leb (P .units) u over) refl)
+start-none W u book whole over = simp (le-ltb book 6400 whole, units-at W) (simp (le-leb (planInUse W .units) u over) refl)
 
 pub part-promise : (b : Bench) (u : ℕ) (book : List ℕ)
     → PartPromise b u book (logStart (b .tables) u (length book)) (logCount (b .tables) (b .gauges) u (length book))
@@ -377,8 +377,8 @@ part-promise b u book = record {
   inside = log-inside (b .tables) (b .gauges) u (length book) .2;
   part = log-promise b u book;
   short = start-short (b .tables) u (length book);
-  refused = λ P planned cs e of over. ap start e ∙ start-none P (after P cs) u (length book) (of .whole) over;
-  rule = λ P planned cs e of unit. ap start e ∙ start-is P (planned-forest P planned) (after P cs) u (length book) (of .whole) unit;
+  refused = λ P planned cs e of over. ap start e ∙ start-none (after P cs) u (length book) (of .whole) over;
+  rule = λ P planned cs e of unit. ap start e ∙ start-is (after P cs) (run-valid P planned cs) u (length book) (of .whole) unit;
 }
   where
     start : Bench → ℕ
@@ -389,9 +389,9 @@ pub log-place : (b : Bench) (u : ℕ) (book part : RefT (List ℕ))
 unfolding after
 log-place b u book part e = record {
   short = λ l. from (book .ptr .1) (omega (arith, start-short (b .tables) u _ l));
-  refused = λ P planned cs f of over. from (book .ptr .1) (omega (arith, at f ∙ start-none P (after P cs) u _ (of .whole) over));
+  refused = λ P planned cs f of over. from (book .ptr .1) (omega (arith, at f ∙ start-none (after P cs) u _ (of .whole) over));
   rule = λ P planned cs f of unit. from (book .ptr .1 + 2 * (u * 200))
-      (omega (arith, at f ∙ start-is P (planned-forest P planned) (after P cs) u _ (of .whole) unit));
+      (omega (arith, at f ∙ start-is (after P cs) (run-valid P planned cs) u _ (of .whole) unit));
 }
   where
     start : Bench → ℕ

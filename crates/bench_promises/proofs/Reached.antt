@@ -14,7 +14,7 @@ use lib.Seq.{take-at, drop-at, drop-drop}
 use lib.Dec.{ltb}
 use Rattle.sets.proofs.Bools.{or-left, or-right}
 use Rattle.model.specs.declared.Hop.{Hop}
-use Rattle.model.specs.Network.{Plan, Network, network, fresh, noHop, hopsOf, logOf}
+use Rattle.model.specs.Network.{Plan, Network, network, freshOn, noHop, hopsOf, logOf}
 use Rattle.model.specs.Rules.{Answer, Outcome, answerOf, leftOf, refuse, refused, send, arrive}
 use Rattle.model.specs.Calls.{Call, Send, Arrive, call, Answered, answered, runFrom, run, networkOf, historyOf}
 use Rattle.model.specs.Demand3.{Planned}
@@ -34,13 +34,13 @@ use Rattle.bench_promises.proofs.Books.{book-length}
 
 -- ---- the lengths of the tables of a state within the limits
 
-pub hop-records-length : (P : Plan) (W : Network) → Limits P W → length (hopRecords W) ≡ 2000
+pub hop-records-length : (W : Network) → Limits W → length (hopRecords W) ≡ 2000
 unfolding hopRecords
-hop-records-length P W L = padded-length 2000 noHop (hopsOf W) (omega (arith, L .hops, L .routes))
+hop-records-length W L = padded-length 2000 noHop (hopsOf W) (omega (arith, L .hops, L .routes))
 
-pub log-book-length : (P : Plan) (W : Network) → Limits P W → length (logBook W) ≡ 6400
+pub log-book-length : (W : Network) → Limits W → length (logBook W) ≡ 6400
 unfolding logBook
-log-book-length P W L = book-length (λ u. logOf u W) (L .log)
+log-book-length W L = book-length (λ u. logOf u W) (L .log)
 
 -- ---- lists that are lent
 
@@ -86,54 +86,54 @@ module _ {A : Type 0} (k : ℕ) (x : List A) (size : length x ≡ k) where
 pub record Reached (P : Plan) (past : List Answered) (b : Bench) (hops : List Hop) (book : List ℕ) : Type 0 where
   pub calls : List Call
   pub history : past ≡ historyOf (run P calls)
-  pub bench : b ≡ benchOf P (after P calls)
+  pub bench : b ≡ benchOf (after P calls)
   pub records : hops ≡ hopRecords (after P calls)
   pub numbers : book ≡ logBook (after P calls)
 
 -- a send leaves the logs
-pub send-book : (P : Plan) (s g w : ℕ) (W : Network) → logBook (leftOf (send P s g w W)) ≡ logBook W
+pub send-book : (s g w : ℕ) (W : Network) → logBook (leftOf (send s g w W)) ≡ logBook W
 unfolding send refused leftOf logBook logOf
-send-book P s g w (network ms hs ls) =
-    let Q : Outcome → Type 0 = λ o. logBook (leftOf o) ≡ logBook (network ms hs ls) in
+send-book s g w (network L ms hs ls) =
+    let Q : Outcome → Type 0 = λ o. logBook (leftOf o) ≡ logBook (network L ms hs ls) in
     refuse-either Q _ _ _ (λ t. refl) (λ t. refuse-either Q _ _ _ (λ t. refl) (λ t.
     refuse-either Q _ _ _ (λ t. refl) (λ t. refuse-either Q _ _ _ (λ t. refl) (λ t. refl))))
 
-pub send-call : (P : Plan) (s g w n : ℕ) (W : Network) → 2000 ≤ n → call P (Send s g w n) W ≡ send P s g w W
+pub send-call : (s g w n : ℕ) (W : Network) → 2000 ≤ n → call (Send s g w n) W ≡ send s g w W
 unfolding call refuse
-send-call P s g w n W b = ap (λ (t : Bool). refuse t (refused 1 W) (send P s g w W)) (le-ltb n 2000 b)
+send-call s g w n W b = ap (λ (t : Bool). refuse t (refused 1 W) (send s g w W)) (le-ltb n 2000 b)
 
-pub arrive-call : (P : Plan) (j n m : ℕ) (W : Network) → 2000 ≤ n → 6400 ≤ m → call P (Arrive j n m) W ≡ arrive P j W
+pub arrive-call : (j n m : ℕ) (W : Network) → 2000 ≤ n → 6400 ≤ m → call (Arrive j n m) W ≡ arrive j W
 unfolding call refuse
-arrive-call P j n m W b d =
-    ap (λ (t : Bool). refuse (t || ltb m 6400) (refused 1 W) (arrive P j W)) (le-ltb n 2000 b)
-    ∙ ap (λ (t : Bool). refuse t (refused 1 W) (arrive P j W)) (le-ltb m 6400 d)
+arrive-call j n m W b d =
+    ap (λ (t : Bool). refuse (t || ltb m 6400) (refused 1 W) (arrive j W)) (le-ltb n 2000 b)
+    ∙ ap (λ (t : Bool). refuse t (refused 1 W) (arrive j W)) (le-ltb m 6400 d)
 
-pub send-short : (P : Plan) (s g w n : ℕ) (W : Network) → n < 2000 → call P (Send s g w n) W ≡ refused 1 W
+pub send-short : (s g w n : ℕ) (W : Network) → n < 2000 → call (Send s g w n) W ≡ refused 1 W
 unfolding call refuse
-send-short P s g w n W b = ap (λ (t : Bool). refuse t (refused 1 W) (send P s g w W)) (lt-ltb n 2000 b)
+send-short s g w n W b = ap (λ (t : Bool). refuse t (refused 1 W) (send s g w W)) (lt-ltb n 2000 b)
 
-pub arrive-short : (P : Plan) (j n m : ℕ) (W : Network) → (n < 2000) ⊎ (m < 6400) → call P (Arrive j n m) W ≡ refused 1 W
+pub arrive-short : (j n m : ℕ) (W : Network) → (n < 2000) ⊎ (m < 6400) → call (Arrive j n m) W ≡ refused 1 W
 unfolding call refuse
-arrive-short P j n m W b = ap (λ (t : Bool). refuse t (refused 1 W) (arrive P j W)) (⊎-elim
+arrive-short j n m W b = ap (λ (t : Bool). refuse t (refused 1 W) (arrive j W)) (⊎-elim
     (λ h. or-left (ltb n 2000) (ltb m 6400) (lt-ltb n 2000 h))
     (λ h. or-right (ltb n 2000) (ltb m 6400) (lt-ltb m 6400 h)) b)
 
 module _ (P : Plan) (planned : Planned P) where
-  pub within : (cs : List Call) → Limits P (after P cs)
+  pub within : (cs : List Call) → Limits (after P cs)
   unfolding after
   within cs = limits P planned cs
 
   -- the call c, with this outcome, after the calls cs
-  module _ (cs : List Call) (c : Call) (o : Outcome) (e : call P c (after P cs) ≡ o) where
+  module _ (cs : List Call) (c : Call) (o : Outcome) (e : call c (after P cs) ≡ o) where
     pub left-state : after P (cs ++ c ∷ []) ≡ leftOf o
     unfolding after
     left-state = network-snoc P cs c ∙ ap leftOf e
 
-    left-limits : Limits P (leftOf o)
-    left-limits = subst (Limits P) left-state (within (cs ++ c ∷ []))
+    left-limits : Limits (leftOf o)
+    left-limits = subst Limits left-state (within (cs ++ c ∷ []))
 
     reached-next : {past : List Answered} {a : Answer} {b : Bench} {hops : List Hop} {book : List ℕ}
-        → past ≡ historyOf (run P cs) → a ≡ answerOf o → b ≡ benchOf P (leftOf o) → hops ≡ hopRecords (leftOf o)
+        → past ≡ historyOf (run P cs) → a ≡ answerOf o → b ≡ benchOf (leftOf o) → hops ≡ hopRecords (leftOf o)
         → book ≡ logBook (leftOf o)
         → Reached P (past ++ answered c a ∷ []) b hops book
     unfolding after
@@ -142,7 +142,7 @@ module _ (P : Plan) (planned : Planned P) where
       history =
           ap (λ x. x ++ answered c a ∷ []) h ∙ ap (λ x. historyOf (run P cs) ++ answered c x ∷ []) (ea ∙ ap answerOf (sym e))
           ∙ sym (history-snoc P cs c);
-      bench = eb ∙ ap (benchOf P) (sym left-state);
+      bench = eb ∙ ap benchOf (sym left-state);
       records = eh ∙ ap hopRecords (sym left-state);
       numbers = ek ∙ ap logBook (sym left-state);
     }
@@ -152,10 +152,10 @@ module _ (P : Plan) (planned : Planned P) where
     W = after P (R .calls)
 
     pub hops-whole : length hops ≡ 2000
-    hops-whole = ap length (R .records) ∙ hop-records-length P W (within (R .calls))
+    hops-whole = ap length (R .records) ∙ hop-records-length W (within (R .calls))
 
     pub book-whole : length book ≡ 6400
-    book-whole = ap length (R .numbers) ∙ log-book-length P W (within (R .calls))
+    book-whole = ap length (R .numbers) ∙ log-book-length W (within (R .calls))
 
     pub of-hops : (h : Loan Hop 2000) → 2000 ≤ length (lent h hops) → OfHops W (lent h hops)
     of-hops h whole = record { whole = whole; records = first-lent 2000 hops hops-whole h whole ∙ R .records }
@@ -175,21 +175,21 @@ module _ (P : Plan) (planned : Planned P) where
         let cs = R .calls in
         let n = length (lent h hops) in
         let c = Send s g w n in
-        let o = send P s g w W in
+        let o = send s g w W in
         by-cases (decLt n 2000)
         (λ few. let one = promise .short few in let x = promise .refused 1 one in
         let H = untouched 2000 hops hops-whole h left (x .1) in record {
-          reached = reached-next cs c (refused 1 W) (send-short P s g w n W few) (R .history) one (x .0 ∙ R .bench)
+          reached = reached-next cs c (refused 1 W) (send-short s g w n W few) (R .history) one (x .0 ∙ R .bench)
               (H .first ∙ R .records) (R .numbers);
           stays = H .stays ∙ ap (lent h) (sym (H .first));
         })
         (λ long. let whole : 2000 ≤ n = omega (arith, long) in
-        let e = send-call P s g w n W whole in
+        let e = send-call s g w n W whole in
         let x = promise .rule P planned cs (R .bench) (of-hops h whole) in
         let H = written 2000 hops hops-whole h (hopRecords (leftOf o)) left
-        (hop-records-length P (leftOf o) (left-limits cs c o e)) whole (x .records) in record {
+        (hop-records-length (leftOf o) (left-limits cs c o e)) whole (x .records) in record {
           reached = reached-next cs c o e (R .history) (x .answer) (x .bench) (H .first)
-              (R .numbers ∙ sym (send-book P s g w W));
+              (R .numbers ∙ sym (send-book s g w W));
           stays = H .stays ∙ ap (lent h) (sym (H .first));
         })
 
@@ -208,13 +208,13 @@ module _ (P : Plan) (planned : Planned P) where
         let cs = R .calls in
         let n = length (lent h hops) in
         let m = length (lent k book) in
-        let o = arrive P j W in
+        let o = arrive j W in
         let c = Arrive j n m in
         let turned : ((n < 2000) ⊎ (m < 6400)) → ArrivedOn j h k r b′ hops-left book-left = λ few.
         let one = promise .short few in let x = promise .refused 1 one in
         let H = untouched 2000 hops hops-whole h hops-left (x .1) in
         let B = untouched 6400 book book-whole k book-left (x .2) in record {
-          reached = reached-next cs c (refused 1 W) (arrive-short P j n m W few) (R .history) one (x .0 ∙ R .bench)
+          reached = reached-next cs c (refused 1 W) (arrive-short j n m W few) (R .history) one (x .0 ∙ R .bench)
               (H .first ∙ R .records) (B .first ∙ R .numbers);
           hops-stay = H .stays ∙ ap (lent h) (sym (H .first));
           book-stays = B .stays ∙ ap (lent k) (sym (B .first));
@@ -223,11 +223,11 @@ module _ (P : Plan) (planned : Planned P) where
         by-cases (decLt m 6400) (λ few. turned (inr few)) (λ long′.
         let whole : 2000 ≤ n = omega (arith, long) in
         let whole′ : 6400 ≤ m = omega (arith, long′) in
-        let e = arrive-call P j n m W whole whole′ in
+        let e = arrive-call j n m W whole whole′ in
         let x = promise .rule P planned cs (R .bench) (of-hops h whole) (of-book k whole′) in
         let L = left-limits cs c o e in
-        let H = written 2000 hops hops-whole h (hopRecords (leftOf o)) hops-left (hop-records-length P (leftOf o) L) whole (x .records) in
-        let B = written 6400 book book-whole k (logBook (leftOf o)) book-left (log-book-length P (leftOf o) L) whole′ (x .numbers) in
+        let H = written 2000 hops hops-whole h (hopRecords (leftOf o)) hops-left (hop-records-length (leftOf o) L) whole (x .records) in
+        let B = written 6400 book book-whole k (logBook (leftOf o)) book-left (log-book-length (leftOf o) L) whole′ (x .numbers) in
         record {
           reached = reached-next cs c o e (R .history) (x .answer) (x .bench) (H .first) (B .first);
           hops-stay = H .stays ∙ ap (lent h) (sym (H .first));
@@ -248,8 +248,8 @@ module _ (P : Plan) (planned : Planned P) where
         calls = [];
         history = refl;
         bench = promise .bench;
-        records = ap (take 2000) (x .1) ∙ take-at (hopRecords fresh) _ 2000 (hop-records-length P fresh L);
-        numbers = ap (take 6400) (x .2) ∙ take-at (logBook fresh) _ 6400 (log-book-length P fresh L);
+        records = ap (take 2000) (x .1) ∙ take-at (hopRecords (freshOn P)) _ 2000 (hop-records-length (freshOn P) L);
+        numbers = ap (take 6400) (x .2) ∙ take-at (logBook (freshOn P)) _ 6400 (log-book-length (freshOn P) L);
       }
 
   -- one that was not refused was lent whole lists

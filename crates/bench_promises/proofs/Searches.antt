@@ -12,14 +12,14 @@ use lib.ListN.{length}
 use Rattle.sets.proofs.Bools.{either, clash, cond-true, cond-false}
 use Rattle.model.specs.declared.Hop.{Hop}
 use Rattle.model.specs.declared.Message.{Message}
-use Rattle.model.specs.Network.{Plan, Network, network, noHop, hopAt, hopsOf, isPair, isHeld, setState, pairCount, pairTaken}
+use Rattle.model.specs.Network.{Ledger, Network, network, noHop, hopAt, hopsOf, isPair, isHeld, setState, pairCount, pairTaken}
 use Rattle.model.specs.Rules.{childrenOn, forward}
 use Rattle.model.proofs.Hops.{length-state}
 use Rattle.model.proofs.Sequences.{Next}
 use Rattle.model.proofs.Idle.{Idle}
 use Rattle.model.proofs.Sound.{Forest}
-use Rattle.model.proofs.Progress.{TakenFirst, pair-at, forward-old, forward-apart, taken-within, equal-idle, after-next, after-idle}
-use Rattle.model.proofs.Progress.{after-some}
+use Rattle.model.proofs.Rest.{TakenFirst}
+use Rattle.model.proofs.Progress.{pair-at, forward-old, forward-apart, taken-within, equal-idle, after-next, after-idle, after-some}
 use Rattle.hops.specs.Access.{nextOfPair}
 use Rattle.bench_promises.specs.declared.arrival.Arrival.{Arrival}
 use Rattle.bench_promises.specs.Machine.{searchFrom, searchEnd, moveTo, movedTo, nextPlace, nextArrival}
@@ -79,10 +79,11 @@ pub record Onward (W : Network) (s r j end n : ℕ) (lent : List Hop) : Type 0 w
 unfoldable pub PairBelow : ℕ → ℕ → ℕ → List Hop → Type 0
 PairBelow s r end hs = (i : ℕ) → i < length hs → isPair s r (hopAt hs i) ≡ true → i < end
 
-module _ (P : Plan) (forest : Forest P) (ms : List Message) (hs : List Hop) (ls : List (List ℕ)) (s r j : ℕ) (N : Next s r hs j)
+module _ (L : Ledger) (forest : Forest (L .inUse)) (ms : List Message) (hs : List Hop) (ls : List (List ℕ)) (s r j : ℕ)
+    (N : Next s r hs j)
     (first : TakenFirst hs) (end : ℕ) (below : PairBelow s r end hs) (m way : ℕ) where
   abbrev cs : List ℕ
-  cs = childrenOn (P .parents) way r
+  cs = childrenOn (L .inUse .parents) way r
 
   abbrev hs′ : List Hop
   hs′ = forward r m cs (setState j 2 hs)
@@ -93,12 +94,12 @@ module _ (P : Plan) (forest : Forest P) (ms : List Message) (hs : List Hop) (ls 
       (λ c.
       let old = forward-old r m cs (setState j 2 hs) i (omega (arith, c, length-state j 2 hs)) in
       below i c (sym (pair-at s r j 2 hs i) ∙ sym (ap (isPair s r) old) ∙ p))
-      (λ c. absurd (clash p (forward-apart s r r m cs (setState j 2 hs) (child-apart P forest way s r) i
+      (λ c. absurd (clash p (forward-apart s r r m cs (setState j 2 hs) (child-apart (L .inUse) forest way s r) i
       (omega (arith, length-state j 2 hs)) b)))
 
   module _ (few : length hs′ ≤ 2000) (rest : List Hop) (n : ℕ) (within : j < end) where
     abbrev W′ : Network
-    W′ = network ms hs′ ls
+    W′ = network L ms hs′ ls
 
     abbrev lent : List Hop
     lent = padded 2000 noHop hs′ ++ rest

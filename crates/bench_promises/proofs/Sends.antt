@@ -15,22 +15,24 @@ use Rattle.sets.proofs.Laws.{member-below, collect-below, size-below, size-posi
 use Rattle.forest.specs.Forest.{route, routeSize}
 use Rattle.model.specs.declared.Hop.{Hop}
 use Rattle.model.specs.declared.Message.{Message}
-use Rattle.model.specs.Network.{Plan, groupOf, primaryOf, routeOf, routeSizeOf, Network, network, noHop, messagesOf, hopsOf, logOf, isPair}
-use Rattle.model.specs.Network.{isTaken, bit, countHops, pairCount, newHop, made, pairTaken, takenOf}
+use Rattle.model.specs.Network.{Plan, groupOf, primaryOf, routeOf, routeSizeOf, routeSizeFor, Ledger, forestsOf, Network, network, noHop}
+use Rattle.model.specs.Network.{ledgerOf, messagesOf, hopsOf, logOf, isPair, isTaken, bit, countHops, pairCount, newHop, made, pairTaken}
+use Rattle.model.specs.Network.{takenOf}
 use Rattle.model.specs.Rules.{Refused, Sent, Outcome, outcome, refuse, refused, answerOf, leftOf, routeTotal, send}
 use Rattle.model.specs.Claims.{Limits}
 use Rattle.model.proofs.Hops.{length-snoc, count-snoc, count-length, sum-snoc}
 use Rattle.model.proofs.Sound.{Forest}
-use Rattle.forest_tables.specs.Computed.{tablesOf, primaryIn, routeIn}
+use Rattle.model.proofs.Networks.{plan-last}
+use Rattle.forest_tables.specs.Computed.{primaryIn, routeIn}
 use Rattle.forest_tables.proofs.Columns.{primary-in, route-in, units-in, groups-in}
 use Rattle.bench_store.specs.Values.{plus, countIn, addedIn}
 use Rattle.bench_promises.specs.declared.Totals.{Totals}
 use Rattle.bench_promises.specs.Machine.{sendRefusal, sentReply, sequenceOf, firstHop, recordedTotals, recordedMessages}
 use Rattle.bench_promises.specs.Machine.{recordedPairs}
 use Rattle.bench_promises.specs.Replies.{sendAnswer}
-use Rattle.bench_promises.specs.State.{Bench, padded, hopRecords, pairTable, totalsOf, benchOf}
-use Rattle.bench_promises.proofs.Padding.{plus-small, byte-small, padded-length, padded-snoc, append-set, count-at}
-use Rattle.bench_promises.proofs.Padding.{pair-same, pair-added, messages-snoc}
+use Rattle.bench_promises.specs.State.{Bench, padded, hopRecords, pairTable, totalsOf, planTables, benchOf}
+use Rattle.bench_promises.proofs.Padding.{plus-small, byte-small, padded-length, padded-snoc, append-set, count-at, pair-same}
+use Rattle.bench_promises.proofs.Padding.{pair-added, messages-snoc}
 
 -- a primary is a unit below 32, and a route holds it
 module _ (P : Plan) (forest : Forest P) where
@@ -48,16 +50,12 @@ route-few P g = size-below (route (P .parents) (groupOf P g))
 
 -- ---- what the tables of a forest hold
 
--- the tables of a plan
-abbrev pub tablesAt : Plan → List ℕ
-tablesAt P = tablesOf (P .units) (P .count) (P .groups) (P .parents)
-
-pub primary-at : (P : Plan) → Forest P → (g : ℕ) → g < P .count → primaryIn (tablesAt P) g ≡ primaryOf P g
+pub primary-at : (P : Plan) → Forest P → (g : ℕ) → g < P .count → primaryIn (planTables P) g ≡ primaryOf P g
 unfolding primaryOf groupOf
 primary-at P forest g b =
     primary-in (P .units) (P .count) (P .groups) (P .parents) g b (forest .few-groups) (omega (arith, primary-unit P forest g b))
 
-pub size-at : (P : Plan) → Forest P → (g : ℕ) → g < P .count → size (routeIn (tablesAt P) g) ≡ routeSizeOf P g
+pub size-at : (P : Plan) → Forest P → (g : ℕ) → g < P .count → size (routeIn (planTables P) g) ≡ routeSizeOf P g
 unfolding routeSizeOf routeSize groupOf
 size-at P forest g b = ap size (route-in (P .units) (P .count) (P .groups) (P .parents) g b (forest .few-groups))
 
@@ -127,29 +125,35 @@ recordedBench b s g w = record {
   gauges = b .gauges;
 }
 
-module _ (P : Plan) (forest : Forest P) (ms : List Message) (hs : List Hop) (ls : List (List ℕ)) (limits : Limits P (network ms hs ls))
-    (rest : List Hop) (s g w : ℕ) where
+module _ (L : Ledger) (forest : Forest (L .inUse)) (ms : List Message) (hs : List Hop) (ls : List (List ℕ))
+    (limits : Limits (network L ms hs ls)) (rest : List Hop) (s g w : ℕ) where
+  abbrev P : Plan
+  P = L .inUse
+
   abbrev W : Network
-  W = network ms hs ls
+  W = network L ms hs ls
 
   abbrev b : Bench
-  b = benchOf P W
+  b = benchOf W
 
   abbrev t : Totals
-  t = totalsOf P W
+  t = totalsOf W
+
+  abbrev far : ℕ
+  far = routeTotal (forestsOf L) ms
 
   abbrev lent : List Hop
   lent = hopRecords W ++ rest
 
   abbrev x : Message
-  x = record { source = s; group = g; word = w }
+  x = record { source = s; group = g; word = w; forest = length (L .earlier) }
 
   abbrev W′ : Network
-  W′ = network (ms ++ x ∷ []) (made s (primaryOf P g) (suc (length ms)) hs) ls
+  W′ = network L (ms ++ x ∷ []) (made s (primaryOf P g) (suc (length ms)) hs) ls
 
   -- what a send that is not turned away answers and leaves is the rule's outcome o
   pub record Sends (o : Outcome) : Type 0 where
-    pub bench : recordedBench b s g w ≡ benchOf P (leftOf o)
+    pub bench : recordedBench b s g w ≡ benchOf (leftOf o)
     pub answer : sendAnswer (sentReply t 0) ≡ answerOf o
     pub hops : set lent (t .made) (firstHop t (b .tables) s g (sequenceOf (b .tables) s g (b .pairs))) ≡ hopRecords (leftOf o) ++ rest
 
@@ -159,11 +163,11 @@ module _ (P : Plan) (forest : Forest P) (ms : List Message) (hs : List Hop) (ls 
     pub sent : eqb number 0 ≡ true → Sends o
 
   few-hops : length hs ≤ 2000
-  unfolding hopsOf messagesOf
+  unfolding ledgerOf hopsOf messagesOf
   few-hops = le-trans (limits .hops) (limits .routes)
 
-  few-routes : routeTotal P ms ≤ 2000
-  unfolding messagesOf
+  few-routes : far ≤ 2000
+  unfolding ledgerOf messagesOf
   few-routes = limits .routes
 
   either-agrees : (test : Bool) (number other : ℕ) (o : Outcome) → Agree number (refused number W)
@@ -173,16 +177,16 @@ module _ (P : Plan) (forest : Forest P) (ms : List Message) (hs : List Hop) (ls 
   either-agrees true number other o a f = a
   either-agrees false number other o a f = f refl
 
-  module _ (bs : s < P .units) (bg : g < P .count) (fewer : length ms < 200) (routed : routeTotal P ms + routeSizeOf P g ≤ 2000) where
+  module _ (bs : s < P .units) (bg : g < P .count) (fewer : length ms < 200) (routed : far + routeSizeOf P g ≤ 2000) where
     source-unit : s < 32
     source-unit = le-trans bs (forest .few)
 
     top : primaryIn (b .tables) g ≡ primaryOf P g
-    unfolding benchOf
+    unfolding benchOf ledgerOf
     top = primary-at P forest g bg
 
     room : length hs < 2000
-    unfolding hopsOf messagesOf
+    unfolding ledgerOf hopsOf messagesOf
     room = omega (arith, limits .hops, route-some P forest g bg)
 
     counted : pairCount s (primaryOf P g) hs < 65535
@@ -203,20 +207,24 @@ module _ (P : Plan) (forest : Forest P) (ms : List Message) (hs : List Hop) (ls 
       state = 0;
     }
 
-    totals-are : recordedTotals t (b .tables) g ≡ totalsOf P W′
-    unfolding recordedTotals benchOf totalsOf messagesOf hopsOf made routeTotal
+    -- the message's own forest is the one in use
+    routed-is : far + routeSizeOf P g ≡ routeTotal (forestsOf L) (ms ++ x ∷ [])
+    unfolding routeTotal
+    routed-is =
+        ap (λ (Q : Plan). far + routeSizeOf Q g) (sym (plan-last L)) ∙ sym (sum-snoc (routeSizeFor (forestsOf L)) ms x)
+
+    totals-are : recordedTotals t (b .tables) g ≡ totalsOf W′
+    unfolding recordedTotals benchOf totalsOf ledgerOf messagesOf hopsOf made
     totals-are = λ i. record {
       made = (plus-small (length hs) 1 (omega (arith, room)) ∙ add-one (length hs) ∙ sym
           (length-snoc hs (newHop s (primaryOf P g) (suc (length ms)) hs))) i;
       taken = sym (taken-made s (primaryOf P g) (suc (length ms)) hs) i;
       sent = (plus-small (length ms) 1 (omega (arith, fewer)) ∙ add-one (length ms) ∙ sym (length-snoc ms x)) i;
-      routed = (ap (plus (routeTotal P ms)) (size-at P forest g bg) ∙ plus-small (routeTotal P ms) (routeSizeOf P g)
-          (omega (arith, routed))
-          ∙ sym (sum-snoc (λ m. routeSizeOf P (m .group)) ms x)) i;
+      routed = (ap (plus far) (size-at P forest g bg) ∙ plus-small far (routeSizeOf P g) (omega (arith, routed)) ∙ routed-is) i;
     }
 
-    bench-is : recordedBench b s g w ≡ benchOf P W′
-    unfolding benchOf totalsOf recordedMessages recordedPairs messagesOf hopsOf logOf
+    bench-is : recordedBench b s g w ≡ benchOf W′
+    unfolding benchOf totalsOf recordedMessages recordedPairs ledgerOf messagesOf hopsOf logOf
     bench-is = λ i. record {
       totals = totals-are i;
       tables = b .tables;
@@ -247,14 +255,13 @@ module _ (P : Plan) (forest : Forest P) (ms : List Message) (hs : List Hop) (ls 
       → Agree number (refused number W)
   turned-away number answer none = record { turned = λ e. (refl, answer); sent = λ e. absurd (clash e none) }
 
-  size-is : leb (P .count) g ≡ false → ltb 2000 (plus (routeTotal P ms) (size (routeIn (tablesAt P) g))) ≡ ltb 2000
-      (routeTotal P ms + routeSizeOf P g)
+  size-is : leb (P .count) g ≡ false → ltb 2000 (plus far (size (routeIn (planTables P) g))) ≡ ltb 2000 (far + routeSizeOf P g)
   size-is e =
-      ap (λ (k : ℕ). ltb 2000 (plus (routeTotal P ms) k)) (size-at P forest g (leb-false (P .count) g e))
-      ∙ ap (ltb 2000) (plus-small (routeTotal P ms) (routeSizeOf P g) (omega (arith, few-routes, route-few P g)))
+      ap (λ (k : ℕ). ltb 2000 (plus far k)) (size-at P forest g (leb-false (P .count) g e))
+      ∙ ap (ltb 2000) (plus-small far (routeSizeOf P g) (omega (arith, few-routes, route-few P g)))
 
-  pub agrees : 2000 ≤ length lent → Agree (sendRefusal t (b .tables) s g (length lent)) (send P s g w W)
-  unfolding sendRefusal send benchOf totalsOf messagesOf sentReply sendAnswer refuse
+  pub agrees : 2000 ≤ length lent → Agree (sendRefusal t (b .tables) s g (length lent)) (send s g w W)
+  unfolding sendRefusal send benchOf totalsOf ledgerOf messagesOf sentReply sendAnswer refuse
   agrees whole =
       simp (
         le-ltb (length lent) 2000 whole,
@@ -266,7 +273,7 @@ module _ (P : Plan) (forest : Forest P) (ms : List Message) (hs : List Hop) (ls 
       (λ e. either-agrees (leb (P .count) g) 13 _ _ (turned-away 13 refl refl)
       (λ u. either-agrees (leb 200 (length ms)) 14 _ _ (turned-away 14 refl refl)
       (λ v. subst (λ (test : Bool). Agree (refuse test 15 0)
-      (refuse (ltb 2000 (routeTotal P ms + routeSizeOf P g)) (refused 15 W) (outcome (Sent (suc (length ms))) W′)))
+      (refuse (ltb 2000 (far + routeSizeOf P g)) (refused 15 W) (outcome (Sent (suc (length ms))) W′)))
       (sym (size-is u))
-      (either-agrees (ltb 2000 (routeTotal P ms + routeSizeOf P g)) 15 _ _ (turned-away 15 refl refl)
+      (either-agrees (ltb 2000 (far + routeSizeOf P g)) 15 _ _ (turned-away 15 refl refl)
       (λ y. accepted (leb-false (P .units) s e) (leb-false (P .count) g u) (leb-false 200 (length ms) v) (ltb-false 2000 _ y)))))))

@@ -2,7 +2,7 @@
 use mathlib.Core.Path.{_≡_, refl, sym, ap, _∙_}
 use mathlib.Core.Logic.{by-cases}
 use mathlib.Core.Bool.{Bool, true, false, _&&_}
-use mathlib.Core.List.{List, [], _++_, append-nil}
+use mathlib.Core.List.{List, _++_}
 use Prim.Native.Nat.{ℕ, zero, suc, _+_, _-_, _≤_, _<_}
 use native.Mathlib.Nat.{le-trans}
 use native.Mathlib.Omega.{arith}
@@ -14,19 +14,18 @@ use Rattle.sets.specs.Sets.{member}
 use Rattle.sets.proofs.Bools.{and-both, cond-true, cond-false}
 use Rattle.model.specs.declared.Hop.{Hop}
 use Rattle.model.specs.declared.Message.{Message}
-use Rattle.model.specs.Network.{Plan, groupOf, routeOf, Network, network, noHop, messageAt, hopAt, messagesOf, hopsOf, logOf, isTaken}
-use Rattle.model.specs.Network.{setState, countHops, pairTaken}
+use Rattle.model.specs.Network.{Plan, groupOf, routeOf, Ledger, Network, network, noHop, messageAt, hopAt, ledgerOf, messagesOf, hopsOf}
+use Rattle.model.specs.Network.{logOf, isTaken, setState, countHops, pairTaken}
 use Rattle.model.specs.Rules.{Outcome, outcome, childrenOn, forward, logged, takeHop, nextHeld, tally, settle}
 use Rattle.model.proofs.Sequences.{Numbered, Next}
 use Rattle.model.proofs.Idle.{Idle}
 use Rattle.model.proofs.Sound.{Forest}
-use Rattle.model.proofs.Runs.{Valid, take-count}
-use Rattle.model.proofs.Theorems.{valid-limits}
-use Rattle.model.proofs.Progress.{TakenFirst, taken-first-take, next-place, idle-place, take-taken, take-taken-other}
+use Rattle.model.proofs.Networks.{Valid, take-count}
+use Rattle.model.proofs.Theorems.{valid-limits, valid-numbered, valid-first, valid-forest}
+use Rattle.model.proofs.Progress.{next-place, idle-place, take-taken, take-taken-other}
 use Rattle.bench_promises.specs.declared.arrival.Arrival.{Arrival}
 use Rattle.bench_promises.specs.Machine.{takeArrival, takePairs, takeBook, nextArrival, isGoing, Settling, settled}
-use Rattle.bench_promises.specs.State.{padded, hopRecords, logBook, messageList}
-use Rattle.bench_promises.proofs.Sends.{tablesAt}
+use Rattle.bench_promises.specs.State.{padded, hopRecords, logBook, messageList, planTables}
 use Rattle.bench_promises.proofs.Copies.{arrivalOf, copy-state, copy-valid, copy-hops, copy-pairs, copy-book, copy-arrival}
 use Rattle.bench_promises.proofs.Copies.{few-after, log-same}
 use Rattle.bench_promises.proofs.Forwards.{pairsOf}
@@ -59,23 +58,23 @@ pub record Ends (W₀ : Network) (s r end : ℕ) (rest : List Hop) (rest′ : Li
     pub few : length (hopsOf state) ≤ 2000
 
 -- nothing to take: the rule stops
-pub idle-settle : (k : ℕ) (P : Plan) (s r n : ℕ) (ms : List Message) (hs : List Hop) (ls : List (List ℕ))
+pub idle-settle : (k s r n : ℕ) (L : Ledger) (ms : List Message) (hs : List Hop) (ls : List (List ℕ))
     → Numbered hs → Idle hs s r
-    → settle k P s r n (network ms hs ls) ≡ outcome (tally n) (network ms hs ls)
+    → settle k s r n (network L ms hs ls) ≡ outcome (tally n) (network L ms hs ls)
 unfolding settle
-idle-settle zero P s r n ms hs ls num idle = refl
-idle-settle (suc k) P s r n ms hs ls num idle =
+idle-settle zero s r n L ms hs ls num idle = refl
+idle-settle (suc k) s r n L ms hs ls num idle =
     cond-false (ltb (nextHeld s r hs) (length hs)) _ _ (le-ltb (nextHeld s r hs) (length hs) (idle-place s r hs num idle))
 
 -- a next hop: the rule takes it
-next-settle : (k : ℕ) (P : Plan) (s r n j : ℕ) (ms : List Message) (hs : List Hop) (ls : List (List ℕ))
+next-settle : (k s r n j : ℕ) (L : Ledger) (ms : List Message) (hs : List Hop) (ls : List (List ℕ))
     → Numbered hs → Next s r hs j
-    → settle (suc k) P s r n (network ms hs ls) ≡ settle k P s r (suc n) (takeHop P j (network ms hs ls))
+    → settle (suc k) s r n (network L ms hs ls) ≡ settle k s r (suc n) (takeHop j (network L ms hs ls))
 unfolding settle
-next-settle k P s r n j ms hs ls num N =
+next-settle k s r n j L ms hs ls num N =
     let here = next-place s r hs num j N in
     cond-true (ltb (nextHeld s r hs) (length hs)) _ _ (ap (λ (i : ℕ). ltb i (length hs)) here ∙ lt-ltb j (length hs) (N .within))
-    ∙ ap (λ (i : ℕ). settle k P s r (suc n) (takeHop P i (network ms hs ls))) here
+    ∙ ap (λ (i : ℕ). settle k s r (suc n) (takeHop i (network L ms hs ls))) here
 
 -- it goes on before the end, where fewer than 2,000 copies were taken
 going-on : (W : Network) (s r at end n : ℕ) → at < end → n < 2000 → isGoing (arrivalOf W s r at end n) ≡ true
@@ -93,12 +92,11 @@ unfolding settled
 still ts ms zero a ps hs book none = refl
 still ts ms (suc f) a ps hs book none = cond-false (isGoing a) _ _ none
 
-module _ (P : Plan) (forest : Forest P) (W₀ : Network) (s r end : ℕ) (small : end ≤ 2000) (rest : List Hop) (rest′ : List ℕ)
+module _ (L : Ledger) (W₀ : Network) (s r end : ℕ) (small : end ≤ 2000) (rest : List Hop) (rest′ : List ℕ)
     (t : List (List ℕ)) where
   -- the loop's invariant at a state, the next copy being at place `at` and n taken
   pub record Before (W : Network) (at n : ℕ) : Type 0 where
-    pub valid : Valid P forest W
-    pub first : TakenFirst (hopsOf W)
+    pub valid : Valid W
     pub below : PairBelow s r end (hopsOf W)
     pub next : at < end → Next s r (hopsOf W) at
     pub idle : end ≤ at → Idle (hopsOf W) s r
@@ -106,16 +104,19 @@ module _ (P : Plan) (forest : Forest P) (W₀ : Network) (s r end : ℕ) (small 
     pub few : n ≤ at
     pub since : Since W₀ W s r n
 
-  numbers : (ms : List Message) (hs : List Hop) (ls : List (List ℕ)) → Valid P forest (network ms hs ls) → Numbered hs
-  unfolding Valid
-  numbers ms hs ls ok = ok ms [] (sym (append-nil ms)) .numbers
-
   -- ---- one copy
 
-  module _ (ms : List Message) (hs : List Hop) (ls : List (List ℕ)) (at n : ℕ) (B : Before (network ms hs ls) at n)
+  module _ (ms : List Message) (hs : List Hop) (ls : List (List ℕ)) (at n : ℕ) (B : Before (network L ms hs ls) at n)
       (going : at < end) where
+    abbrev P : Plan
+    P = L .inUse
+
     abbrev W : Network
-    W = network ms hs ls
+    W = network L ms hs ls
+
+    forest : Forest P
+    unfolding ledgerOf
+    forest = valid-forest W (B .valid)
 
     N : Next s r hs at
     unfolding hopsOf
@@ -137,13 +138,13 @@ module _ (P : Plan) (forest : Forest P) (W₀ : Network) (s r end : ℕ) (small 
     ls′ = logged (member (groupOf P g) r) r m ls
 
     abbrev W′ : Network
-    W′ = network ms hs′ ls′
+    W′ = network L ms hs′ ls′
 
     small-count : n < 65535
     small-count = omega (arith, B .few)
 
-    rule-is : takeHop P at W ≡ W′
-    rule-is = copy-state P forest ms hs ls (B .valid) s r at N rest rest′ t end n small-count
+    rule-is : takeHop at W ≡ W′
+    rule-is = copy-state L ms hs ls (B .valid) s r at N rest rest′ t end n small-count
 
     since′ : Since W₀ W′ s r (suc n)
     unfolding messagesOf hopsOf
@@ -155,24 +156,23 @@ module _ (P : Plan) (forest : Forest P) (W₀ : Network) (s r end : ℕ) (small 
       all = omega (
         arith,
         ap (λ (X : Network). countHops isTaken (hopsOf X)) (sym rule-is),
-        take-count P forest ms hs ls s r at N,
+        take-count L ms hs ls s r at N,
         B .since
             .all,
       );
-      logs = λ u ne. log-same P forest ms hs ls (B .valid) s r at N rest rest′ t end n small-count u ne ∙ B .since .logs u ne;
+      logs = λ u ne. log-same L ms hs ls (B .valid) s r at N rest rest′ t end n small-count u ne ∙ B .since .logs u ne;
     }
 
     on : Onward W′ s r at end (suc n) (padded 2000 noHop hs′ ++ rest)
     unfolding hopsOf
-    on = onward P forest ms hs ls′ s r at N (B .first) end (B .below) m (routeOf P g)
-        (few-after P forest ms hs ls (B .valid) s r at N rest rest′ t end n small-count) rest (suc n) going
+    on = onward L forest ms hs ls′ s r at N (valid-first W (B .valid)) end (B .below) m (routeOf P g)
+        (few-after L ms hs ls (B .valid) s r at N rest rest′ t end n small-count) rest (suc n) going
 
     before′ : Before W′ (on .place) (suc n)
     unfolding hopsOf
     before′ = record {
-      valid = copy-valid P forest ms hs ls (B .valid) s r at N rest rest′ t end n small-count;
-      first = taken-first-take s r r m cs hs at N (B .first);
-      below = copy-below P forest ms hs ls′ s r at N (B .first) end (B .below) m (routeOf P g);
+      valid = copy-valid L ms hs ls (B .valid) s r at N rest rest′ t end n small-count;
+      below = copy-below L forest ms hs ls′ s r at N (valid-first W (B .valid)) end (B .below) m (routeOf P g);
       next = on .next;
       idle = on .idle;
       until = on .until;
@@ -190,7 +190,7 @@ module _ (P : Plan) (forest : Forest P) (W₀ : Network) (s r end : ℕ) (small 
     book = logBook W ++ rest′
 
     abbrev ts : List ℕ
-    ts = tablesAt P
+    ts = planTables P
 
     abbrev ns : List ℕ
     ns = messageList ms
@@ -209,44 +209,45 @@ module _ (P : Plan) (forest : Forest P) (W₀ : Network) (s r end : ℕ) (small 
         cond-true (isGoing start) _ _ (going-on W s r at end n going (omega (arith, B .few)))
         ∙ ap (λ (x : List Hop). settled ts ns f (nextArrival (takeArrival ts ns start ps lent) x) (takePairs ts ns start ps lent) x
         (takeBook ts ns start lent book))
-        (copy-hops P forest ms hs ls (B .valid) s r at N rest rest′ t end n small-count)
+        (copy-hops L ms hs ls (B .valid) s r at N rest rest′ t end n small-count)
         ∙ ap (λ (x : Arrival). settled ts ns f (nextArrival x lent′) (takePairs ts ns start ps lent) lent′
         (takeBook ts ns start lent book))
-        (copy-arrival P forest ms hs ls (B .valid) s r at N rest rest′ t end n small-count)
+        (copy-arrival L ms hs ls (B .valid) s r at N rest rest′ t end n small-count)
         ∙ ap (λ (x : Arrival). settled ts ns f x (takePairs ts ns start ps lent) lent′ (takeBook ts ns start lent book)) (on .moves)
         ∙ ap (λ (x : List (List (List ℕ))). settled ts ns f (arrivalOf W′ s r (on .place) end (suc n)) x lent′
         (takeBook ts ns start lent book))
-        (copy-pairs P forest ms hs ls (B .valid) s r at N rest rest′ t end n small-count)
+        (copy-pairs L ms hs ls (B .valid) s r at N rest rest′ t end n small-count)
         ∙ ap (settled ts ns f (arrivalOf W′ s r (on .place) end (suc n)) (pairsOf hs′ t) lent′)
-        (copy-book P forest ms hs ls (B .valid) s r at N rest rest′ t end n small-count)
+        (copy-book L ms hs ls (B .valid) s r at N rest rest′ t end n small-count)
 
   -- ---- all copies
 
   abbrev EndsFrom : ℕ → ℕ → (ms : List Message) (hs : List Hop) (ls : List (List ℕ)) → ℕ → ℕ → Type 0
   EndsFrom f k ms hs ls at n =
-      let W = network ms hs ls in
-      Ends W₀ s r end rest rest′ t (settled (tablesAt P) (messageList ms) f (arrivalOf W s r at end n)
+      let W = network L ms hs ls in
+      Ends W₀ s r end rest rest′ t (settled (planTables (L .inUse)) (messageList ms) f (arrivalOf W s r at end n)
       (pairsOf hs t) (hopRecords W ++ rest)
       (logBook W ++ rest′))
-      (settle k P s r n W)
+      (settle k s r n W)
 
   stops : (f k : ℕ) (ms : List Message) (hs : List Hop) (ls : List (List ℕ)) (at n : ℕ)
-      → Before (network ms hs ls) at n → end ≤ at
+      → Before (network L ms hs ls) at n → end ≤ at
       → EndsFrom f k ms hs ls at n
-  unfolding settlingOf hopsOf messagesOf
+  unfolding settlingOf hopsOf
   stops f k ms hs ls at n B over = record {
-    state = network ms hs ls;
+    state = network L ms hs ls;
     taken = n;
     place = at;
-    rule = idle-settle k P s r n ms hs ls (numbers ms hs ls (B .valid)) (B .idle over);
-    loop = still _ _ f (arrivalOf (network ms hs ls) s r at end n) _ _ _
+    rule = idle-settle k s r n L ms hs ls (valid-numbered (network L ms hs ls) (B .valid)) (B .idle over);
+    loop = still _ _ f (arrivalOf (network L ms hs ls) s r at end n) _ _ _
         (going-over _ s r at end n over);
     since = B .since;
-    few = let limits = valid-limits P forest (network ms hs ls) (B .valid) in le-trans (limits .hops) (limits .routes);
+    few = let limits = valid-limits (network L ms hs ls) (B .valid) in le-trans (limits .hops) (limits .routes);
   }
 
-  pub loops : (f k : ℕ) (ms : List Message) (hs : List Hop) (ls : List (List ℕ)) (at n : ℕ) → Before (network ms hs ls) at n
+  pub loops : (f k : ℕ) (ms : List Message) (hs : List Hop) (ls : List (List ℕ)) (at n : ℕ) → Before (network L ms hs ls) at n
       → end - at ≤ f → end - at ≤ k → EndsFrom f k ms hs ls at n
+  unfolding hopsOf
   loops zero k ms hs ls at n B fuel fuel′ = stops zero k ms hs ls at n B (omega arith)
   loops (suc f) zero ms hs ls at n B fuel fuel′ = stops (suc f) zero ms hs ls at n B (omega arith)
   loops (suc f) (suc k) ms hs ls at n B fuel fuel′ = by-cases (decLt at end)
@@ -258,8 +259,8 @@ module _ (P : Plan) (forest : Forest P) (W₀ : Network) (s r end : ℕ) (small 
         state = E .state;
         taken = E .taken;
         place = E .place;
-        rule = next-settle k P s r n at ms hs ls (numbers ms hs ls (B .valid)) (N ms hs ls at n B going)
-            ∙ ap (settle k P s r (suc n)) (rule-is ms hs ls at n B going) ∙ E .rule;
+        rule = next-settle k s r n at L ms hs ls (valid-numbered (network L ms hs ls) (B .valid)) (N ms hs ls at n B going)
+            ∙ ap (settle k s r (suc n)) (rule-is ms hs ls at n B going) ∙ E .rule;
         loop = loop-is ms hs ls at n B going f ∙ E .loop;
         since = E .since;
         few = E .few;

@@ -15,25 +15,25 @@ use Rattle.sets.proofs.Bools.{clash}
 use Rattle.layout.specs.Tables.{tabulate}
 use Rattle.forest.specs.declared.Answer.{Answer as ForestAnswer}
 use Rattle.layout.specs.Build.{built as layout}
-use Rattle.forest.specs.Calls.{refusal, drawn, groupsRefusal, drawingRefusal, orRoots}
-use Rattle.forest.specs.Calls.{buildRefusal, buildParents, checkRefusal, checkParents}
+use Rattle.forest.specs.Calls.{refusal, drawn, groupsRefusal, drawingRefusal, orRoots, buildRefusal, buildParents, checkRefusal}
+use Rattle.forest.specs.Calls.{checkParents}
 use Rattle.forest.proofs.Shared.{same-counted}
 use Rattle.forest_tables.specs.Computed.{columnsOf, tablesOf}
 use Rattle.model.specs.declared.Hop.{Hop}
-use Rattle.model.specs.Network.{Plan, Network, fresh, noHop, messagesOf, hopsOf, logOf, sumOf, countHops, pairCount, pairTaken}
+use Rattle.model.specs.Network.{Plan, Network, freshOn, noHop, ledgerOf, planInUse, messagesOf, hopsOf, logOf, sumOf, countHops}
+use Rattle.model.specs.Network.{pairCount, pairTaken}
 use Rattle.model.specs.Rules.{Answer, allTaken, quiescent, routeTotal}
 use Rattle.model.specs.Calls.{Call, Send, Arrive, Answered, answered, run, networkOf, historyOf, LogAnswer, log, Rest, rest}
 use Rattle.model.specs.Demand3.{Planned, built, checked, Demand3}
 use Rattle.model.specs.Claims.{Limits, callOf, Reading}
 use Rattle.model.proofs.Runs.{run-calls}
-use Rattle.model.proofs.Planning.{planned-forest}
 use Rattle.model.proofs.Replies.{refuse-either, rest-answers}
-use Rattle.model.proofs.Theorems.{demand-3, reading, limits}
+use Rattle.model.proofs.Theorems.{demand-3, reading, limits, valid-forest, run-valid}
 use Rattle.bench_promises.specs.declared.replies.FreshReply.{FreshReply}
 use Rattle.bench_promises.specs.declared.replies.RestReply.{RestReply}
 use Rattle.bench_promises.specs.Replies.{freshAnswer, restAnswer}
 use Rattle.bench_promises.specs.State.{Bench, padded, hopRecords, pairTable, messageList, totalsOf, benchOf}
-use Rattle.bench_promises.specs.Promises.{after, handedBack, OfHops, OfBook, FreshPromise, RestPromise, LogPromise}
+use Rattle.bench_promises.specs.Promises.{after, handedBack, OfHops, OfBook, freshNetwork, FreshPromise, RestPromise, LogPromise}
 use Rattle.bench_promises.specs.Chains.{Loan, behind, other, lent, Called, begun, sends, arrives, asked, CallsDemand3, RestSays}
 use Rattle.bench_promises.specs.Chains.{ChainsExist}
 use Rattle.bench_promises.proofs.Promised.{fresh-promise, send-some, arrive-some, rest-promise, log-promise}
@@ -42,9 +42,10 @@ use Rattle.bench_promises.proofs.Reached.{within, Reached, hops-whole, 
 -- ---- what the calls that only look say of the state reached
 
 -- the call log hands back a unit's log; what is no unit has none
-pub handed-log : (P : Plan) (u book : ℕ) (W : Network) → Limits P W → 6400 ≤ book → handedBack (log P u book W) ≡ logOf u W
+pub handed-log : (u book : ℕ) (W : Network) → Limits W → 6400 ≤ book → handedBack (log u book W) ≡ logOf u W
 unfolding log handedBack
-handed-log P u book W within whole =
+handed-log u book W within whole =
+    let P = planInUse W in
     let Q : LogAnswer → Type 0 = λ a. handedBack a ≡ logOf u W in
     refuse-either Q (ltb book 6400) _ _ (λ t. absurd (clash t (le-ltb book 6400 whole))) (λ t.
     refuse-either Q (leb (P .units) u) _ _ (λ outside. sym (within .units u (leb-true (P .units) u outside))) (λ inside. refl))
@@ -71,16 +72,18 @@ module _ (P : Plan) (planned : Planned P) where
     reached-log u more part promise =
         let B = book-behind more in
         promise .rule P planned (R .calls) (R .bench) B .0
-        ∙ handed-log P u (length (book ++ more)) (after P (R .calls)) (within P planned (R .calls)) (B .whole)
+        ∙ handed-log u (length (book ++ more)) (after P (R .calls)) (within P planned (R .calls)) (B .whole)
 
     -- what cannot be asked for is no unit
     reached-asked : (logs : ℕ → List ℕ) → ((u : ℕ) → u < 65536 → (more : List ℕ) × LogPromise b u (book ++ more) (logs u))
         → (u : ℕ) → asked logs u ≡ logOf u (after P (R .calls))
-    unfolding asked
+    unfolding asked after
     reached-asked logs promise u = by-cases (decLt u 65536)
         (λ small. let x = promise u small in
         ap (λ (t : Bool). cond t (logs u) []) (lt-ltb u 65536 small) ∙ reached-log u (x .0) (logs u) (x .1))
-        (λ large. let past-units : P .units ≤ u = omega (arith, large, planned-forest P planned .few) in
+        (λ large.
+        let W = after P (R .calls) in
+        let past-units : planInUse W .units ≤ u = omega (arith, large, valid-forest W (run-valid P planned (R .calls)) .few) in
         ap (λ (t : Bool). cond t (logs u) []) (le-ltb u 65536 (omega (arith, large)))
         ∙ sym (within P planned (R .calls) .units u past-units))
 
@@ -107,10 +110,10 @@ module _ (P : Plan) (planned : Planned P) where
 
   -- the messages sent, as read off the answers, are numbered 1, 2, .. in their order
   pub calls-reading : {past : List Answered} {b : Bench} {hops : List Hop} {book : List ℕ} → Called P past b hops book
-      → Reading (map callOf past) past
+      → Reading P (map callOf past) past
   calls-reading C =
       let R = called-reached P planned C in
-      subst (λ (l : List Answered). Reading (map callOf l) l) (sym (R .history))
+      subst (λ (l : List Answered). Reading P (map callOf l) l) (sym (R .history))
       (record { calls = refl; numbers = reading P planned (R .calls) .numbers })
 
   pub calls-rest : {past : List Answered} {b : Bench} {hops : List Hop} {book : List ℕ} → Called P past b hops book → RestSays b hops
@@ -131,11 +134,11 @@ module _ (P : Plan) (planned : Planned P) {past : List Answered} {b : Bench} {ho
   list-history = reached .history ∙ ap (λ (x : List Call). historyOf (run P x)) same-calls
 
   pub list-log : (u : ℕ) (more part : List ℕ) → LogPromise b u (book ++ more) part
-      → part ≡ handedBack (log P u 6400 (networkOf (run P cs)))
+      → part ≡ handedBack (log u 6400 (networkOf (run P cs)))
   unfolding after
   list-log u more part promise =
       reached-log P planned reached u more part promise ∙ ap (λ (x : List Call). logOf u (networkOf (run P x))) same-calls
-      ∙ sym (handed-log P u 6400 (networkOf (run P cs)) (limits P planned cs) (omega arith))
+      ∙ sym (handed-log u 6400 (networkOf (run P cs)) (limits P planned cs) (omega arith))
 
   pub list-rest : (more : List Hop) (r : RestReply) → RestPromise b (hops ++ more) r → restAnswer r ≡ rest 2000 (networkOf (run P cs))
   unfolding after
@@ -219,9 +222,8 @@ checked-planned units count groups drawing r e q accepted = checked drawing (sym
 -- a fresh bench depends on the groups that count alone
 pub fresh-counted : (units count : ℕ) (groups groups′ parents : List ℕ)
     → ((i : ℕ) → i < count → getD groups i 0 ≡ getD groups′ i 0)
-    → benchOf (record { units = units; count = count; groups = groups; parents = parents }) fresh
-    ≡ benchOf (record { units = units; count = count; groups = groups′; parents = parents }) fresh
-unfolding benchOf totalsOf tablesOf fresh messagesOf hopsOf routeTotal sumOf countHops
+    → benchOf (freshNetwork units count groups parents) ≡ benchOf (freshNetwork units count groups′ parents)
+unfolding benchOf totalsOf tablesOf freshOn ledgerOf messagesOf hopsOf logOf routeTotal sumOf countHops
 fresh-counted units count groups groups′ parents same =
     let table = same-counted count groups groups′ same in
     λ i. record {
@@ -229,7 +231,7 @@ fresh-counted units count groups groups′ parents same =
       tables = columnsOf units count (table i) parents;
       messages = messageList [];
       pairs = pairTable (λ s r. pairCount s r []) ∷ pairTable (λ s r. pairTaken s r []) ∷ [];
-      gauges = tabulate 32 (λ u. length (logOf u fresh));
+      gauges = tabulate 32 (λ u. length (logOf u (freshNetwork units count groups parents)));
     }
 
 -- and so does the premise: a forest answered for groups that agree with these where they count

@@ -9,7 +9,7 @@ use mathlib.Core.List.{List, [], _∷_, _++_}
 use lib.ListN.{length, take, drop}
 use denote.Ref.{RefT}
 use Rattle.model.specs.declared.Hop.{Hop}
-use Rattle.model.specs.Network.{Plan, Network, fresh}
+use Rattle.model.specs.Network.{Plan, Network, freshOn, planInUse}
 use Rattle.model.specs.Rules.{Outcome, Refused, answerOf, leftOf, quiescent}
 use Rattle.model.specs.Rules.{send}
 use Rattle.model.specs.Rules.{arrive}
@@ -39,20 +39,25 @@ pub record OfBook (W : Network) (book : List ℕ) : Type 0 where
 
 -- ---- fresh: on these units, groups and parents, lent `hops` and `book`, which become `hops-left` and `book-left`
 
+-- the state of the rules on them
+abbrev pub freshNetwork : (units count : ℕ) (groups parents : List ℕ) → Network
+freshNetwork n c gs ps = freshOn (record { units = n; count = c; groups = gs; parents = ps })
+
 pub record FreshPromise (units count : ℕ) (groups parents : List ℕ) (hops : List Hop) (book : List ℕ)
     (r : FreshReply) (left : Bench) (hops-left : List Hop) (book-left : List ℕ) : Type 0 where
   pub short : (length hops < 2000) ⊎ (length book < 6400) → (freshAnswer r ≡ 1 ∷ []) × (hops-left ≡ hops) × (book-left ≡ book)
   pub whole : 2000 ≤ length hops → 6400 ≤ length book → (freshAnswer r ≡ [])
-      × (hops-left ≡ hopRecords fresh ++ drop 2000 hops) × (book-left ≡ logBook fresh ++ drop 6400 book)
+      × (hops-left ≡ hopRecords (freshNetwork units count groups parents) ++ drop 2000 hops)
+      × (book-left ≡ logBook (freshNetwork units count groups parents) ++ drop 6400 book)
   -- document 01 does not say which bench stands beside a refusal: it is the same
-  pub bench : left ≡ benchOf (record { units = units; count = count; groups = groups; parents = parents }) fresh
+  pub bench : left ≡ benchOf (freshNetwork units count groups parents)
 
 -- ---- send
 
 -- what a send answers and leaves is the rule's outcome o
-pub record SentAs (P : Plan) (o : Outcome) (hops : List Hop) (r : SendReply) (left : Bench) (hops-left : List Hop) : Type 0 where
+pub record SentAs (o : Outcome) (hops : List Hop) (r : SendReply) (left : Bench) (hops-left : List Hop) : Type 0 where
   pub answer : sendAnswer r ≡ answerOf o
-  pub bench : left ≡ benchOf P (leftOf o)
+  pub bench : left ≡ benchOf (leftOf o)
   pub records : hops-left ≡ hopRecords (leftOf o) ++ drop 2000 hops
 
 pub record SendPromise (b : Bench) (source group word : ℕ) (hops : List Hop) (r : SendReply) (left : Bench)
@@ -61,15 +66,15 @@ pub record SendPromise (b : Bench) (source group word : ℕ) (hops : List Hop) (
     -- turned away, whatever it was handed, it leaves the very same values
     pub refused : (number : ℕ) → sendAnswer r ≡ Refused number → (left ≡ b) × (hops-left ≡ hops)
     pub short : length hops < 2000 → sendAnswer r ≡ Refused 1
-    pub rule : (P : Plan) → Planned P → (cs : List Call) → b ≡ benchOf P (after P cs) → OfHops (after P cs) hops
-        → SentAs P (send P source group word (after P cs)) hops r left hops-left
+    pub rule : (P : Plan) → Planned P → (cs : List Call) → b ≡ benchOf (after P cs) → OfHops (after P cs) hops
+        → SentAs (send source group word (after P cs)) hops r left hops-left
 
 -- ---- arrive
 
-pub record ArrivedAs (P : Plan) (o : Outcome) (hops : List Hop) (book : List ℕ)
+pub record ArrivedAs (o : Outcome) (hops : List Hop) (book : List ℕ)
     (r : ArriveReply) (left : Bench) (hops-left : List Hop) (book-left : List ℕ) : Type 0 where
   pub answer : arriveAnswer r ≡ answerOf o
-  pub bench : left ≡ benchOf P (leftOf o)
+  pub bench : left ≡ benchOf (leftOf o)
   pub records : hops-left ≡ hopRecords (leftOf o) ++ drop 2000 hops
   pub numbers : book-left ≡ logBook (leftOf o) ++ drop 6400 book
 
@@ -77,15 +82,15 @@ pub record ArrivePromise (b : Bench) (hop : ℕ) (hops : List Hop) (book : List 
     (r : ArriveReply) (left : Bench) (hops-left : List Hop) (book-left : List ℕ) : Type 0 where
   pub refused : (number : ℕ) → arriveAnswer r ≡ Refused number → (left ≡ b) × (hops-left ≡ hops) × (book-left ≡ book)
   pub short : (length hops < 2000) ⊎ (length book < 6400) → arriveAnswer r ≡ Refused 1
-  pub rule : (P : Plan) → Planned P → (cs : List Call) → b ≡ benchOf P (after P cs) → OfHops (after P cs) hops
+  pub rule : (P : Plan) → Planned P → (cs : List Call) → b ≡ benchOf (after P cs) → OfHops (after P cs) hops
       → OfBook (after P cs) book
-      → ArrivedAs P (arrive P hop (after P cs)) hops book r left hops-left book-left
+      → ArrivedAs (arrive hop (after P cs)) hops book r left hops-left book-left
 
 -- ---- rest
 
 pub record RestPromise (b : Bench) (hops : List Hop) (r : RestReply) : Type 0 where
   pub short : length hops < 2000 → restAnswer r ≡ RestRefused 1
-  pub rule : (P : Plan) → Planned P → (cs : List Call) → b ≡ benchOf P (after P cs) → OfHops (after P cs) hops
+  pub rule : (P : Plan) → Planned P → (cs : List Call) → b ≡ benchOf (after P cs) → OfHops (after P cs) hops
       → restAnswer r ≡ Rest (quiescent (after P cs))
 
 -- ---- log
@@ -102,18 +107,18 @@ lengthAnswer (Log l) = Length (length l)
 -- `part` is what stands in the book from where the row starts, as long as the log
 pub record LogPromise (b : Bench) (unit : ℕ) (book part : List ℕ) : Type 0 where
   pub short : length book < 6400 → part ≡ []
-  pub rule : (P : Plan) → Planned P → (cs : List Call) → b ≡ benchOf P (after P cs) → OfBook (after P cs) book
-      → (part ≡ handedBack (log P unit (length book) (after P cs))) × (part ≡ take (length part) (drop (unit * 200) book))
+  pub rule : (P : Plan) → Planned P → (cs : List Call) → b ≡ benchOf (after P cs) → OfBook (after P cs) book
+      → (part ≡ handedBack (log unit (length book) (after P cs))) × (part ≡ take (length part) (drop (unit * 200) book))
 
 -- and it is a part of the caller's book: in the same block of memory, from the byte where the unit's row starts; the empty part that
 -- is handed back beside a refusal starts where the book does
 pub record LogPlace (b : Bench) (unit : ℕ) (book part : RefT (List ℕ)) : Type 0 where
   pub short : length (book .now) < 6400 → part .ptr ≡ book .ptr
-  pub refused : (P : Plan) → Planned P → (cs : List Call) → b ≡ benchOf P (after P cs)
-      → OfBook (after P cs) (book .now) → P .units ≤ unit
+  pub refused : (P : Plan) → Planned P → (cs : List Call) → b ≡ benchOf (after P cs)
+      → OfBook (after P cs) (book .now) → planInUse (after P cs) .units ≤ unit
       → part .ptr ≡ book .ptr
-  pub rule : (P : Plan) → Planned P → (cs : List Call) → b ≡ benchOf P (after P cs)
-      → OfBook (after P cs) (book .now) → unit < P .units
+  pub rule : (P : Plan) → Planned P → (cs : List Call) → b ≡ benchOf (after P cs)
+      → OfBook (after P cs) (book .now) → unit < planInUse (after P cs) .units
       → part .ptr ≡ (book .ptr .0, book .ptr .1 + 2 * (unit * 200))
 
 -- the same part by numbers: it starts at a place of the book, and has so many. It lies inside the book, whatever is handed over
@@ -121,12 +126,12 @@ pub record PartPromise (b : Bench) (unit : ℕ) (book : List ℕ) (start count :
   pub inside : start + count ≤ length book
   pub part : LogPromise b unit book (take count (drop start book))
   pub short : length book < 6400 → start ≡ 0
-  pub refused : (P : Plan) → Planned P → (cs : List Call) → b ≡ benchOf P (after P cs) → OfBook (after P cs) book
-      → P .units ≤ unit → start ≡ 0
-  pub rule : (P : Plan) → Planned P → (cs : List Call) → b ≡ benchOf P (after P cs) → OfBook (after P cs) book
-      → unit < P .units → start ≡ unit * 200
+  pub refused : (P : Plan) → Planned P → (cs : List Call) → b ≡ benchOf (after P cs) → OfBook (after P cs) book
+      → planInUse (after P cs) .units ≤ unit → start ≡ 0
+  pub rule : (P : Plan) → Planned P → (cs : List Call) → b ≡ benchOf (after P cs) → OfBook (after P cs) book
+      → unit < planInUse (after P cs) .units → start ≡ unit * 200
 
 pub record LengthPromise (b : Bench) (unit : ℕ) (book : List ℕ) (r : LogReply) : Type 0 where
   pub short : length book < 6400 → logAnswer r ≡ LengthRefused 1
-  pub rule : (P : Plan) → Planned P → (cs : List Call) → b ≡ benchOf P (after P cs) → OfBook (after P cs) book
-      → logAnswer r ≡ lengthAnswer (log P unit (length book) (after P cs))
+  pub rule : (P : Plan) → Planned P → (cs : List Call) → b ≡ benchOf (after P cs) → OfBook (after P cs) book
+      → logAnswer r ≡ lengthAnswer (log unit (length book) (after P cs))

@@ -5,15 +5,16 @@ use lib.ListN.{length, getD, replicate}
 use Rattle.layout.specs.Tables.{tabulate}
 use Rattle.model.specs.declared.Hop.{Hop}
 use Rattle.model.specs.declared.Message.{Message}
-use Rattle.model.specs.Network.{Plan, Network, noHop, noMessage, messagesOf, hopsOf, logOf, isTaken, countHops, pairCount, pairTaken}
-use Rattle.model.specs.Rules.{routeTotal}
+use Rattle.model.specs.Network.{Plan, Network, noHop, noMessage, planInUse, messagesOf, hopsOf, logOf, isTaken, countHops}
+use Rattle.model.specs.Network.{pairCount, pairTaken}
+use Rattle.model.specs.Rules.{routed}
 use Rattle.forest_tables.specs.Computed.{tablesOf}
 use Rattle.bench_promises.specs.declared.Totals.{Totals}
 
 -- a bench: its totals and its lists
 pub record Bench : Type 0 where
   pub totals : Totals
-  -- what is computed of the forest
+  -- what is computed of the forest in use
   pub tables : List ℕ
   -- the columns of the messages sent
   pub messages : List ℕ
@@ -49,22 +50,27 @@ pairTable f = tabulate 32 (λ s. tabulate 32 (f s))
 unfoldable pub messageColumn : (Message → ℕ) → List Message → List ℕ
 messageColumn f ms = tabulate 200 (λ i. f (getD ms i noMessage))
 
+-- source, group and word; of a message's forest nothing is kept
 unfoldable pub messageList : List Message → List ℕ
 messageList ms = messageColumn (λ x. x .source) ms ++ (messageColumn (λ x. x .group) ms ++ messageColumn (λ x. x .word) ms)
 
-unfoldable pub totalsOf : Plan → Network → Totals
-totalsOf P W = record {
+unfoldable pub totalsOf : Network → Totals
+totalsOf W = record {
   made = length (hopsOf W);
   taken = countHops isTaken (hopsOf W);
   sent = length (messagesOf W);
-  routed = routeTotal P (messagesOf W);
+  routed = routed W;
 }
 
--- the bench on a plan
-unfoldable pub benchOf : Plan → Network → Bench
-benchOf P W = record {
-  totals = totalsOf P W;
-  tables = tablesOf (P .units) (P .count) (P .groups) (P .parents);
+-- what is computed of a plan's forest
+abbrev pub planTables : Plan → List ℕ
+planTables P = tablesOf (P .units) (P .count) (P .groups) (P .parents)
+
+-- the bench of a state; its tables are those of the forest in use
+unfoldable pub benchOf : Network → Bench
+benchOf W = record {
+  totals = totalsOf W;
+  tables = planTables (planInUse W);
   messages = messageList (messagesOf W);
   pairs = pairTable (λ s r. pairCount s r (hopsOf W)) ∷ pairTable (λ s r. pairTaken s r (hopsOf W)) ∷ [];
   gauges = tabulate 32 (λ u. length (logOf u W));

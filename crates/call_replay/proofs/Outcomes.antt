@@ -20,7 +20,7 @@ use Rattle.bench_store.specs.Values.{rowIn}
 use Rattle.forest.specs.declared.Verdict.{Verdict}
 use Rattle.forest.specs.Calls.{refusal, checkRefusal, checkParents}
 use Rattle.model.specs.declared.Hop.{Hop}
-use Rattle.model.specs.Network.{Plan, Network, fresh, hopsOf, pairCount, pairTaken}
+use Rattle.model.specs.Network.{Plan, Network, freshOn, hopsOf, pairCount, pairTaken}
 use Rattle.model.specs.Calls.{run as runCalls, runFrom as runCallsFrom, networkOf}
 use Rattle.model.specs.Demand3.{Planned, checked}
 use Rattle.bench.specs.Lists.{listsOf}
@@ -129,13 +129,13 @@ module _ (f g : ℕ → ℕ → ℕ) where
   unfolding rowsOf pairTable joined rowIn tabulate
   rows-taken = refl
 
-pub bench-out : (P : Plan) (W : Network) → benchOut (benchOf P W) ≡ benchNumbers P W
+pub bench-out : (W : Network) → benchOut (benchOf W) ≡ benchNumbers W
 unfolding benchOut benchOf totalsOf messageList benchNumbers
-bench-out P W = simp (rows-made, rows-taken, append-assoc)
+bench-out W = simp (rows-made, rows-taken, append-assoc)
 
-pub bench-length : (P : Plan) (W : Network) → length (benchNumbers P W) ≡ 2684
+pub bench-length : (W : Network) → length (benchNumbers W) ≡ 2684
 unfolding benchNumbers messageColumn
-bench-length P W =
+bench-length W =
     let pairs : (f : ℕ → ℕ → ℕ) → length (joined 32 (λ s. tabulate 32 (f s))) ≡ 1024 =
     λ f. joined-length 32 32 (λ s. tabulate 32 (f s)) (λ s. length-tabulate 32 (f s)) in
     simp (length-append, length-tabulate) (omega (
@@ -208,10 +208,10 @@ module _ (g : Given) (accepted : Forest g ≡ []) (lent : FreshShort g ≡ false
         let long : 2000 ≤ length allNines = subst (λ (k : ℕ). 2000 ≤ k) (sym (length-replicate 2008 nines)) (omega arith) in record {
           bench = R .begins .bench;
           hops-are = replaced 2000 n (take 2000 allNines) (drop 2000 allNines) allNines (sym (take-append-drop 2000 allNines))
-              (length-take-le 2000 allNines long) (hopRecords fresh) (R .hops-fresh) hops-whole (x .1)
-              ∙ ap (λ (t : List Hop). hopRecords fresh ++ t) last-nines;
+              (length-take-le 2000 allNines long) (hopRecords (freshOn P)) (R .hops-fresh) hops-whole (x .1)
+              ∙ ap (λ (t : List Hop). hopRecords (freshOn P) ++ t) last-nines;
           book-is = replaced 6400 m (take 6400 (g .book)) (drop 6400 (g .book)) (g .book) (sym (take-append-drop 6400 (g .book)))
-              (length-take-le 6400 (g .book) book-long) (logBook fresh) (R .book-fresh) book-whole (x .2);
+              (length-take-le 6400 (g .book) book-long) (logBook (freshOn P)) (R .book-fresh) book-whole (x .2);
         }
 
     size-is : 6400 + length rest ≡ length (g .book)
@@ -230,7 +230,7 @@ module _ (g : Given) (accepted : Forest g ≡ []) (lent : FreshShort g ≡ false
     unfolding ran run requests begunWith after runCalls runCallsFrom networkOf
     ran-is =
         let none : 6 * (length (g .calls) / 6 - length (g .calls) / 6) ≡ 0 = omega arith in
-        ap (λ (k : ℕ). runFrom P (requestsOf (length (g .book)) (drop k (g .calls))) (replied [] fresh)) (sym none) ∙ F .is
+        ap (λ (k : ℕ). runFrom (requestsOf (length (g .book)) (drop k (g .calls))) (replied [] (freshOn P))) (sym none) ∙ F .is
 
     -- what is left where nothing is refused, of the calls run
     left-by : {A : Type 0} (f : Replied → A) (before : A) → refusalOf g ≡ []
@@ -261,24 +261,24 @@ module _ (g : Given) (accepted : Forest g ≡ []) (lent : FreshShort g ≡ false
           numbers-length (R .hops-left),
           ap length records,
           length-append (hopRecords W) tail,
-          hop-records-length P W L,
+          hop-records-length W L,
           length-replicate 8 nines,
         ) in
-        let out-is : benchOut (listsOf (end .bench)) ≡ benchNumbers P W = ap benchOut (F .state .bench) ∙ bench-out P W in
+        let out-is : benchOut (listsOf (end .bench)) ≡ benchNumbers W = ap benchOut (F .state .bench) ∙ bench-out W in
         let small = F .small in
         let replies-fit : length (F .numbers) ≤ length (g .replies) = omega (arith, small, replies-long) in
         let count-is : end .numbers ≡ length (F .numbers) = R .runs .ends ∙ written-fits (F .puts) replies-fit .0 in
         record {
           answers = told ∙ (λ i. 0 ∷ sym (requests-length (length (g .book)) (g .calls)) i ∷ count-is i ∷ [])
               ∙ left-by (λ r. 0 ∷ length (requests g) ∷ length (repliesOf r) ∷ []) _ none;
-          leaves-book = F .state .book-is ∙ ap (λ (k : ℕ). logBook W ++ drop k (g .book)) (sym (log-book-length P W L))
+          leaves-book = F .state .book-is ∙ ap (λ (k : ℕ). logBook W ++ drop k (g .book)) (sym (log-book-length W L))
               ∙ left-by (λ r. over (logBook (stateOf r)) (g .book)) _ none;
           leaves-hops = put-over (R .puts) (omega (arith, size, hops-long))
               ∙ ap (λ (hs : List Hop). over (hopNumbers hs) (g .hops)) records
               ∙ left-by (λ r. over (hopNumbers (lastRecords (stateOf r))) (g .hops)) _ none;
-          leaves-bench = put-over puts (omega (arith, ap length out-is, bench-length P W, bench-long)) ∙ ap
+          leaves-bench = put-over puts (omega (arith, ap length out-is, bench-length W, bench-long)) ∙ ap
               (λ (l : List ℕ). over l (g .bench)) out-is
-              ∙ left-by (λ r. over (benchNumbers P (stateOf r)) (g .bench)) _ none;
+              ∙ left-by (λ r. over (benchNumbers (stateOf r)) (g .bench)) _ none;
           leaves-replies = put-over (F .puts) replies-fit ∙ left-by (λ r. over (repliesOf r) (g .replies)) _ none;
         }
 

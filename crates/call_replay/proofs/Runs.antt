@@ -126,9 +126,9 @@ unfolding answeredAs answerOf leftOf
 answered-is (outcome a W) = refl
 
 -- log hands back at most 200 messages
-handed-small : (P : Plan) (u book : ℕ) (W : Network) → Limits P W → length (handedBack (log P u book W)) ≤ 200
+handed-small : (u book : ℕ) (W : Network) → Limits W → length (handedBack (log u book W)) ≤ 200
 unfolding log handedBack
-handed-small P u book W L =
+handed-small u book W L =
     let Q : LogAnswer → Type 0 = λ a. length (handedBack a) ≤ 200 in
     refuse-either Q _ _ _ (λ t. omega arith) (λ t. refuse-either Q _ _ _ (λ t. omega arith) (λ t. L .log u))
 
@@ -156,7 +156,7 @@ module _ (P : Plan) (planned : Planned P) (tail : List Hop) (rest : List ℕ) (e
       (left : List ℕ) : Type 0 where
     calls : List Call
     numbers : List ℕ
-    is : reply P x (after P cs) ≡ replied numbers (after P calls)
+    is : reply x (after P cs) ≡ replied numbers (after P calls)
     state : At P planned tail rest calls (listsOf b) hops book
     puts : Written numbers at out place left
     small : length numbers ≤ 203
@@ -182,10 +182,10 @@ module _ (P : Plan) (planned : Planned P) (tail : List Hop) (rest : List ℕ) (e
         let X = sent-at P planned at₀ (q .a) (q .b) (q .c) (hopsLent q hops) promise c
         (ap (SendCall (q .a) (q .b) (q .c)) (sym hops-lent))
         in
-        let o = call P c (after P cs) in record {
+        let o = call c (after P cs) in record {
           calls = cs ++ c ∷ [];
           numbers = answerNumbers (answerOf o);
-          is = ap (λ (x : Request). reply P x (after P cs)) (as-send size (q .kind) (q .a) (q .b) (q .c) (q .hops) (q .book) t)
+          is = ap (λ (x : Request). reply x (after P cs)) (as-send size (q .kind) (q .a) (q .b) (q .c) (q .hops) (q .book) t)
               ∙ answered-is o ∙ ap (replied (answerNumbers (answerOf o))) (sym (left-state P planned cs c o refl));
           state = X .1;
           puts = written-is (answer-three (sendAnswer (r .reply)) ∙ ap answerNumbers (X .0))
@@ -196,10 +196,10 @@ module _ (P : Plan) (planned : Planned P) (tail : List Hop) (rest : List ℕ) (e
         let c = ArriveCall (q .a) (min (q .hops) 2008) (min (q .book) size) in
         let X = arrived-at P planned at₀ (q .a) (hopsLent q hops) (bookLent q book) promise c
         (λ i. ArriveCall (q .a) (sym hops-lent i) (sym book-lent i)) in
-        let o = call P c (after P cs) in record {
+        let o = call c (after P cs) in record {
           calls = cs ++ c ∷ [];
           numbers = answerNumbers (answerOf o);
-          is = ap (λ (x : Request). reply P x (after P cs)) (as-arrive size (q .kind) (q .a) (q .b) (q .c) (q .hops) (q .book) f t)
+          is = ap (λ (x : Request). reply x (after P cs)) (as-arrive size (q .kind) (q .a) (q .b) (q .c) (q .hops) (q .book) f t)
               ∙ answered-is o ∙ ap (replied (answerNumbers (answerOf o))) (sym (left-state P planned cs c o refl));
           state = X .1;
           puts = written-is (answer-three (arriveAnswer (r .reply)) ∙ ap answerNumbers (X .0))
@@ -209,14 +209,14 @@ module _ (P : Plan) (planned : Planned P) (tail : List Hop) (rest : List ℕ) (e
     stepped (looked f f′ promise) (put-log k x) =
         let W = after P cs in
         let part : List ℕ = x .part in
-        let same : part ≡ handedBack (log P (q .a) (min (q .book) size) W) =
-        logged-at P planned at₀ (q .a) (bookLent q book) (x .promise) ∙ ap (λ (n : ℕ). handedBack (log P (q .a) n W)) book-lent in
-        let few-handed = handed-small P (q .a) (min (q .book) size) W (within P planned cs) in
+        let same : part ≡ handedBack (log (q .a) (min (q .book) size) W) =
+        logged-at P planned at₀ (q .a) (bookLent q book) (x .promise) ∙ ap (λ (n : ℕ). handedBack (log (q .a) n W)) book-lent in
+        let few-handed = handed-small (q .a) (min (q .book) size) W (within P planned cs) in
         let small : length part ≤ 200 = subst (λ (l : List ℕ). length l ≤ 200) (sym same) few-handed in
         let counted : length part % 65536 ≡ length part = omega (arith, small) in record {
           calls = cs;
-          numbers = logNumbers (handedBack (log P (q .a) (min (q .book) size) W));
-          is = ap (λ (y : Request). reply P y W) (as-log size (q .kind) (q .a) (q .b) (q .c) (q .hops) (q .book) k);
+          numbers = logNumbers (handedBack (log (q .a) (min (q .book) size) W));
+          is = ap (λ (y : Request). reply y W) (as-log size (q .kind) (q .a) (q .b) (q .c) (q .hops) (q .book) k);
           state = at₀;
           puts = written-is (log-numbers part counted ∙ ap logNumbers same) (x .puts);
           small = log-length _ few-handed;
@@ -224,18 +224,18 @@ module _ (P : Plan) (planned : Planned P) (tail : List Hop) (rest : List ℕ) (e
     stepped (looked f f′ promise) (put-length k x) =
         let W = after P cs in record {
           calls = cs;
-          numbers = lengthNumbers (lengthAnswer (log P (q .a) (min (q .book) size) W));
-          is = ap (λ (y : Request). reply P y W) (as-length size (q .kind) (q .a) (q .b) (q .c) (q .hops) (q .book) k);
+          numbers = lengthNumbers (lengthAnswer (log (q .a) (min (q .book) size) W));
+          is = ap (λ (y : Request). reply y W) (as-length size (q .kind) (q .a) (q .b) (q .c) (q .hops) (q .book) k);
           state = at₀;
           puts = written-is (ap lengthNumbers (length-at P planned at₀ (q .a) (bookLent q book) (x .promise)
-              ∙ ap (λ (n : ℕ). lengthAnswer (log P (q .a) n W)) book-lent)) (x .puts);
-          small = omega (arith, length-length (lengthAnswer (log P (q .a) (min (q .book) size) W)));
+              ∙ ap (λ (n : ℕ). lengthAnswer (log (q .a) n W)) book-lent)) (x .puts);
+          small = omega (arith, length-length (lengthAnswer (log (q .a) (min (q .book) size) W)));
         }
     stepped (looked {r = r} f f′ promise) (put-three not-2 not-3 w) =
         let W = after P cs in record {
           calls = cs;
           numbers = restNumbers (restOf (min (q .hops) 2008) W);
-          is = ap (λ (y : Request). reply P y W) (as-rest size (q .kind) (q .a) (q .b) (q .c) (q .hops) (q .book) f f′ not-2 not-3);
+          is = ap (λ (y : Request). reply y W) (as-rest size (q .kind) (q .a) (q .b) (q .c) (q .hops) (q .book) f f′ not-2 not-3);
           state = at₀;
           puts = written-is (rest-three (restAnswer r) ∙ ap restNumbers (rested-at P planned at₀ (hopsLent q hops) promise
               ∙ ap (λ (n : ℕ). restOf n W) hops-lent)) w;
@@ -248,7 +248,7 @@ module _ (P : Plan) (planned : Planned P) (tail : List Hop) (rest : List ℕ) (e
       (b : Bench) (p′ : Progress) (hops : List Hop) (book left : List ℕ) : Type 0 where
     pub calls : List Call
     pub numbers : List ℕ
-    pub is : runFrom P (requestsOf size (drop (6 * (length list / 6 - p .left)) list)) (replied ns (after P cs)) ≡ replied (ns ++ numbers)
+    pub is : runFrom (requestsOf size (drop (6 * (length list / 6 - p .left)) list)) (replied ns (after P cs)) ≡ replied (ns ++ numbers)
         (after P calls)
     pub state : At P planned tail rest calls (listsOf b) hops book
     pub puts : Written numbers (p .at) out (p′ .at) left
@@ -270,7 +270,7 @@ module _ (P : Plan) (planned : Planned P) (tail : List Hop) (rest : List ℕ) (e
       let short : length l < 6 = omega (arith, none, length-drop (6 * (length list / 6 - p .left)) list) in record {
         calls = cs;
         numbers = [];
-        is = ap (λ (qs : List Request). runFrom P qs (replied ns (after P cs))) (few size l short)
+        is = ap (λ (qs : List Request). runFrom qs (replied ns (after P cs))) (few size l short)
             ∙ ap (λ (z : List ℕ). replied z (after P cs)) (sym (append-nil ns));
         state = at₀;
         puts = written-none (p .at) out;
@@ -290,9 +290,9 @@ module _ (P : Plan) (planned : Planned P) (tail : List Hop) (rest : List ℕ) (e
       record {
         calls = F .calls;
         numbers = S .numbers ++ F .numbers;
-        is = ap (λ (qs : List Request). runFrom P qs (replied ns (after P cs))) (six size l long)
-            ∙ ap (λ (z : Replied). runFrom P (requestsOf size (drop 6 l)) (followed ns z)) (S .is)
-            ∙ ap (λ (z : List ℕ). runFrom P (requestsOf size z) (replied (ns ++ S .numbers) (after P (S .calls)))) rest-is
+        is = ap (λ (qs : List Request). runFrom qs (replied ns (after P cs))) (six size l long)
+            ∙ ap (λ (z : Replied). runFrom (requestsOf size (drop 6 l)) (followed ns z)) (S .is)
+            ∙ ap (λ (z : List ℕ). runFrom (requestsOf size z) (replied (ns ++ S .numbers) (after P (S .calls)))) rest-is
             ∙ F .is ∙ ap (λ (z : List ℕ). replied z (after P (F .calls))) (append-assoc ns (S .numbers) (F .numbers));
         state = F .state;
         puts = written-append (S .puts) (F .puts);

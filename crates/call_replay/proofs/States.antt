@@ -47,23 +47,23 @@ module _ {A : Type 0} (k n : ℕ) (y tail l : List A) (is : l ≡ y ++ tail) (si
 module _ (P : Plan) (planned : Planned P) where
   -- bench, hops and book are those of the state after a list of calls; past them the hops end in `tail`, the book in `rest`
   pub record At (tail : List Hop) (rest : List ℕ) (cs : List Call) (b : Bench) (hops : List Hop) (book : List ℕ) : Type 0 where
-    pub bench : b ≡ benchOf P (after P cs)
+    pub bench : b ≡ benchOf (after P cs)
     pub hops-are : hops ≡ hopRecords (after P cs) ++ tail
     pub book-is : book ≡ logBook (after P cs) ++ rest
 
   hops-size : (cs : List Call) → length (hopRecords (after P cs)) ≡ 2000
-  hops-size cs = hop-records-length P (after P cs) (within P planned cs)
+  hops-size cs = hop-records-length (after P cs) (within P planned cs)
 
   book-size : (cs : List Call) → length (logBook (after P cs)) ≡ 6400
-  book-size cs = log-book-length P (after P cs) (within P planned cs)
+  book-size cs = log-book-length (after P cs) (within P planned cs)
 
   module _ {tail : List Hop} {rest : List ℕ} where
-    goes-on : (cs : List Call) (c : Call) (o : Outcome) → call P c (after P cs) ≡ o
+    goes-on : (cs : List Call) (c : Call) (o : Outcome) → call c (after P cs) ≡ o
         → {b : Bench} {hops : List Hop} {book : List ℕ} → b ≡
-        benchOf P (leftOf o)
+        benchOf (leftOf o)
         → hops ≡ hopRecords (leftOf o) ++ tail → book ≡ logBook (leftOf o) ++ rest → At tail rest (cs ++ c ∷ []) b hops book
     goes-on cs c o e x y z = let same = sym (left-state P planned cs c o e) in record {
-      bench = x ∙ ap (benchOf P) same;
+      bench = x ∙ ap benchOf same;
       hops-are = y ∙ ap (λ (W : Network). hopRecords W ++ tail) same;
       book-is = z ∙ ap (λ (W : Network). logBook W ++ rest) same;
     }
@@ -93,41 +93,41 @@ module _ (P : Plan) (planned : Planned P) where
 
       pub sent-at : {r : SendReply} {b′ : Bench} {left : List Hop} (s g w n : ℕ) → SendPromise b s g w (take n hops) r b′ left
           → (c : Call) → c ≡ Send s g w (length (take n hops))
-          → (sendAnswer r ≡ answerOf (call P c (after P cs))) × At tail rest (cs ++ c ∷ []) b′ (left ++ drop n hops) book
+          → (sendAnswer r ≡ answerOf (call c (after P cs))) × At tail rest (cs ++ c ∷ []) b′ (left ++ drop n hops) book
       unfolding refused answerOf leftOf
       sent-at {left = left} s g w n promise c same =
           let W = after P cs in
           by-cases (decLt (length (take n hops)) 2000)
           (λ short. let one = promise .short short in let x = promise .refused 1 one in
-          let e = ap (λ (z : Call). call P z W) same ∙ send-short P s g w (length (take n hops)) W short in (
+          let e = ap (λ (z : Call). call z W) same ∙ send-short s g w (length (take n hops)) W short in (
             one ∙ sym (ap answerOf e),
             goes-on cs c (refused 1 W) e (x .0 ∙ at .bench)
                 (kept 2000 n (hopRecords W) tail hops (at .hops-are) (hops-size cs) left (x .1)) (at .book-is),
           ))
           (λ long. let whole : 2000 ≤ length (take n hops) = omega (arith, long) in
           let x = promise .rule P planned cs (at .bench) (of-hops n whole) in
-          let e = ap (λ (z : Call). call P z W) same ∙ send-call P s g w (length (take n hops)) W whole in (
+          let e = ap (λ (z : Call). call z W) same ∙ send-call s g w (length (take n hops)) W whole in (
             x .answer ∙ sym (ap answerOf e),
-            goes-on cs c (send P s g w W) e (x .bench)
-                (replaced 2000 n (hopRecords W) tail hops (at .hops-are) (hops-size cs) (hopRecords (leftOf (send P s g w W))) left whole
+            goes-on cs c (send s g w W) e (x .bench)
+                (replaced 2000 n (hopRecords W) tail hops (at .hops-are) (hops-size cs) (hopRecords (leftOf (send s g w W))) left whole
                 (x .records))
-                (at .book-is ∙ ap (λ (z : List ℕ). z ++ rest) (sym (send-book P s g w W))),
+                (at .book-is ∙ ap (λ (z : List ℕ). z ++ rest) (sym (send-book s g w W))),
           ))
 
       pub arrived-at : {r : ArriveReply} {b′ : Bench} {left : List Hop} {book-left : List ℕ} (j n m : ℕ)
           → ArrivePromise b j (take n hops) (take m book) r b′ left book-left → (c : Call) → c ≡ Arrive j (length (take n hops))
           (length (take m book))
-          → (arriveAnswer r ≡ answerOf (call P c (after P cs))) × At tail rest (cs ++ c ∷ []) b′ (left ++ drop n hops)
+          → (arriveAnswer r ≡ answerOf (call c (after P cs))) × At tail rest (cs ++ c ∷ []) b′ (left ++ drop n hops)
           (book-left ++ drop m book)
       unfolding refused answerOf leftOf
       arrived-at {r} {b′} {left} {book-left} j n m promise c same =
           let W = after P cs in
           let turned : ((length (take n hops) < 2000) ⊎ (length (take m book) < 6400))
-          → (arriveAnswer r ≡ answerOf (call P c W)) × At tail rest (cs ++ c ∷ []) b′ (left ++ drop n hops)
+          → (arriveAnswer r ≡ answerOf (call c W)) × At tail rest (cs ++ c ∷ []) b′ (left ++ drop n hops)
           (book-left ++ drop m book) = λ
           short.
           let one = promise .short short in let x = promise .refused 1 one in
-          let e = ap (λ (z : Call). call P z W) same ∙ arrive-short P j (length (take n hops)) (length (take m book)) W short in (
+          let e = ap (λ (z : Call). call z W) same ∙ arrive-short j (length (take n hops)) (length (take m book)) W short in (
             one ∙ sym (ap answerOf e),
             goes-on cs c (refused 1 W) e (x .0 ∙ at .bench)
                 (kept 2000 n (hopRecords W) tail hops (at .hops-are) (hops-size cs) left (x .1))
@@ -138,13 +138,13 @@ module _ (P : Plan) (planned : Planned P) where
           let whole : 2000 ≤ length (take n hops) = omega (arith, long) in
           let whole′ : 6400 ≤ length (take m book) = omega (arith, long′) in
           let x = promise .rule P planned cs (at .bench) (of-hops n whole) (of-book m whole′) in
-          let e = ap (λ (z : Call). call P z W) same
-          ∙ arrive-call P j (length (take n hops)) (length (take m book)) W whole whole′ in (
+          let e = ap (λ (z : Call). call z W) same
+          ∙ arrive-call j (length (take n hops)) (length (take m book)) W whole whole′ in (
             x .answer ∙ sym (ap answerOf e),
-            goes-on cs c (arrive P j W) e (x .bench)
-                (replaced 2000 n (hopRecords W) tail hops (at .hops-are) (hops-size cs) (hopRecords (leftOf (arrive P j W))) left whole
+            goes-on cs c (arrive j W) e (x .bench)
+                (replaced 2000 n (hopRecords W) tail hops (at .hops-are) (hops-size cs) (hopRecords (leftOf (arrive j W))) left whole
                 (x .records))
-                (replaced 6400 m (logBook W) rest book (at .book-is) (book-size cs) (logBook (leftOf (arrive P j W))) book-left whole′
+                (replaced 6400 m (logBook W) rest book (at .book-is) (book-size cs) (logBook (leftOf (arrive j W))) book-left whole′
                 (x .numbers)),
           )))
 
@@ -158,7 +158,7 @@ module _ (P : Plan) (planned : Planned P) where
           promise .rule P planned cs (at .bench) (of-hops n whole) ∙ sym (rest-answers (length (take n hops)) (after P cs) whole))
 
       pub logged-at : {part : List ℕ} (u m : ℕ) → LogPromise b u (take m book) part → part ≡ handedBack
-          (log P u (length (take m book)) (after P cs))
+          (log u (length (take m book)) (after P cs))
       unfolding log refuse handedBack
       logged-at u m promise =
           by-cases (decLt (length (take m book)) 6400)
@@ -166,7 +166,7 @@ module _ (P : Plan) (planned : Planned P) where
           (λ long. promise .rule P planned cs (at .bench) (of-book m (omega (arith, long))) .0)
 
       pub length-at : {r : LogReply} (u m : ℕ) → LengthPromise b u (take m book) r → logAnswer r ≡ lengthAnswer
-          (log P u (length (take m book)) (after P cs))
+          (log u (length (take m book)) (after P cs))
       unfolding log refuse lengthAnswer
       length-at u m promise =
           by-cases (decLt (length (take m book)) 6400)

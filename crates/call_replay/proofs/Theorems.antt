@@ -4,7 +4,7 @@ use mathlib.Core.Path.{_≡_, refl, sym, ap, subst, _∙_}
 use mathlib.Core.Bool.{Bool, true, false, cond}
 use mathlib.Core.Logic.{by-cases}
 use mathlib.Core.List.{List, [], _∷_, _++_, append-nil, append-assoc}
-use Prim.Native.Nat.{ℕ, _+_, _*_, _-_, _<_}
+use Prim.Native.Nat.{ℕ, _+_, _*_, _-_, _≤_, _<_}
 use native.Mathlib.Nat.{suc-ne-zero}
 use native.Mathlib.Decide.{decLt}
 use native.Mathlib.Omega.{arith}
@@ -15,14 +15,13 @@ use Rattle.layout.specs.Tables.{tabulate}
 use Rattle.layout.proofs.Tables.{length-tabulate, getD-tabulate}
 use Rattle.forest.specs.Calls.{refuse, groupsRefusal, drawingRefusal, checkRefusal}
 use Rattle.model.specs.declared.Hop.{Hop}
-use Rattle.model.specs.Network.{Plan, Network, fresh, noHop, hopsOf, logOf}
+use Rattle.model.specs.Network.{Plan, Network, freshOn, noHop, ledgerOf, planInUse, hopsOf, logOf}
 use Rattle.model.specs.Rules.{Answer, Refused, Sent, Repeat, Held, Taken, Outcome, outcome, answerOf, leftOf, allTaken, quiescent}
 use Rattle.model.specs.Calls.{Call, Send as SendCall, Arrive as ArriveCall, call, Answered, answered, Run, ran as ranTo, recorded, step}
 use Rattle.model.specs.Calls.{runFrom as runCallsFrom, run as runCalls, networkOf, historyOf, log, rest as restOf}
 use Rattle.model.specs.Demand3.{Planned, checked, Demand3}
 use Rattle.model.specs.Claims.{Limits}
-use Rattle.model.proofs.Planning.{planned-forest}
-use Rattle.model.proofs.Theorems.{demand-3, limits}
+use Rattle.model.proofs.Theorems.{demand-3, limits, valid-forest, run-valid}
 use Rattle.bench_promises.specs.State.{padded, hopRecords, logBook, totalsOf, benchOf}
 use Rattle.bench_promises.specs.Promises.{after, handedBack, lengthAnswer, LogPromise}
 use Rattle.bench_promises.specs.Chains.{Called}
@@ -63,12 +62,12 @@ first-told Held l = refl
 first-told (Taken n) l = refl
 
 -- what the rules' run of requests tells, and the run of their sends and arrivals beside it
-record Replayed (P : Plan) (qs : List Request) (ns : List ℕ) (W : Network) (past : List Answered) : Type 0 where
+record Replayed (qs : List Request) (ns : List ℕ) (W : Network) (past : List Answered) : Type 0 where
   numbers : List ℕ
   new : List Answered
   last : Network
-  tells : runFrom P qs (replied ns W) ≡ replied (ns ++ numbers) last
-  runs : runCallsFrom P (callsIn qs) (ranTo W past) ≡ ranTo last (past ++ new)
+  tells : runFrom qs (replied ns W) ≡ replied (ns ++ numbers) last
+  runs : runCallsFrom (callsIn qs) (ranTo W past) ≡ ranTo last (past ++ new)
   reads : (more : List ℕ) → answersIn qs (numbers ++ more) ≡ new
 
 recorded-is : (c : Call) (past : List Answered) (o : Outcome) → recorded c past o
@@ -76,79 +75,78 @@ recorded-is : (c : Call) (past : List Answered) (o : Outcome) → recorded c pas
 unfolding recorded answerOf leftOf
 recorded-is c past (outcome a W) = refl
 
-module _ (P : Plan) where
-  -- one request more, which tells A and leaves W′
-  told : (q : Request) (qs : List Request) (ns A : List ℕ) (W W′ : Network) → reply P q W ≡ replied A W′
-      → runFrom P (q ∷ qs) (replied ns W) ≡ runFrom P qs (replied (ns ++ A) W′)
-  unfolding runFrom followed
-  told q qs ns A W W′ e = ap (λ (r : Replied). runFrom P qs (followed ns r)) e
+-- one request more, which tells A and leaves W′
+told : (q : Request) (qs : List Request) (ns A : List ℕ) (W W′ : Network) → reply q W ≡ replied A W′
+    → runFrom (q ∷ qs) (replied ns W) ≡ runFrom qs (replied (ns ++ A) W′)
+unfolding runFrom followed
+told q qs ns A W W′ e = ap (λ (r : Replied). runFrom qs (followed ns r)) e
 
-  -- a request that is a call
-  called-step : (q : Request) (qs : List Request) (c : Call) (ns : List ℕ) (W : Network) (past : List Answered)
-      → reply P q W ≡ answeredAs (call P c W) → callsIn (q ∷ qs) ≡ c ∷ callsIn qs
-      → ((l : List ℕ) → answersIn (q ∷ qs) l ≡ answered c (firstAnswer l) ∷ answersIn qs (drop 3 l))
-      → Replayed P qs (ns ++ answerNumbers (answerOf (call P c W))) (leftOf (call P c W))
-      (past ++ answered c (answerOf (call P c W)) ∷ [])
-      → Replayed P (q ∷ qs) ns W past
-  unfolding runCallsFrom step
-  called-step q qs c ns W past e calls reads R =
-      let o = call P c W in
-      let A = answerNumbers (answerOf o) in record {
-        numbers = A ++ R .numbers;
-        new = answered c (answerOf o) ∷ R .new;
-        last = R .last;
-        tells = told q qs ns A W (leftOf o) (e ∙ answered-is o) ∙ R .tells
-            ∙ ap (λ (l : List ℕ). replied l (R .last)) (append-assoc ns A (R .numbers));
-        runs = ap (λ (cs : List Call). runCallsFrom P cs (ranTo W past)) calls
-            ∙ ap (runCallsFrom P (callsIn qs)) (recorded-is c past o) ∙ R .runs
-            ∙ ap (ranTo (R .last)) (append-snoc past (answered c (answerOf o)) (R .new));
-        reads = λ more.
-            let l = R .numbers ++ more in
-            ap (answersIn (q ∷ qs)) (append-assoc A (R .numbers) more) ∙ reads (A ++ l)
-            ∙ (λ i. answered c (first-told (answerOf o) l i) ∷ answersIn qs (drop-at A l 3 (answer-length (answerOf o)) i))
-            ∙ ap (λ (x : List Answered). answered c (answerOf o) ∷ x) (R .reads more);
-      }
+-- a request that is a call
+called-step : (q : Request) (qs : List Request) (c : Call) (ns : List ℕ) (W : Network) (past : List Answered)
+    → reply q W ≡ answeredAs (call c W) → callsIn (q ∷ qs) ≡ c ∷ callsIn qs
+    → ((l : List ℕ) → answersIn (q ∷ qs) l ≡ answered c (firstAnswer l) ∷ answersIn qs (drop 3 l))
+    → Replayed qs (ns ++ answerNumbers (answerOf (call c W))) (leftOf (call c W))
+    (past ++ answered c (answerOf (call c W)) ∷ [])
+    → Replayed (q ∷ qs) ns W past
+unfolding runCallsFrom step
+called-step q qs c ns W past e calls reads R =
+    let o = call c W in
+    let A = answerNumbers (answerOf o) in record {
+      numbers = A ++ R .numbers;
+      new = answered c (answerOf o) ∷ R .new;
+      last = R .last;
+      tells = told q qs ns A W (leftOf o) (e ∙ answered-is o) ∙ R .tells
+          ∙ ap (λ (l : List ℕ). replied l (R .last)) (append-assoc ns A (R .numbers));
+      runs = ap (λ (cs : List Call). runCallsFrom cs (ranTo W past)) calls
+          ∙ ap (runCallsFrom (callsIn qs)) (recorded-is c past o) ∙ R .runs
+          ∙ ap (ranTo (R .last)) (append-snoc past (answered c (answerOf o)) (R .new));
+      reads = λ more.
+          let l = R .numbers ++ more in
+          ap (answersIn (q ∷ qs)) (append-assoc A (R .numbers) more) ∙ reads (A ++ l)
+          ∙ (λ i. answered c (first-told (answerOf o) l i) ∷ answersIn qs (drop-at A l 3 (answer-length (answerOf o)) i))
+          ∙ ap (λ (x : List Answered). answered c (answerOf o) ∷ x) (R .reads more);
+    }
 
-  -- a request that only looks
-  looked-step : (q : Request) (qs : List Request) (ns A : List ℕ) (W : Network) (past : List Answered) → reply P q W ≡ replied A W
-      → callsIn (q ∷ qs) ≡ callsIn qs → ((l : List ℕ) → answersIn (q ∷ qs) (A ++ l) ≡ answersIn qs l)
-      → Replayed P qs (ns ++ A) W past → Replayed P (q ∷ qs) ns W past
-  looked-step q qs ns A W past e calls reads R = record {
-    numbers = A ++ R .numbers;
-    new = R .new;
-    last = R .last;
-    tells = told q qs ns A W W e ∙ R .tells ∙ ap (λ (l : List ℕ). replied l (R .last)) (append-assoc ns A (R .numbers));
-    runs = ap (λ (cs : List Call). runCallsFrom P cs (ranTo W past)) calls ∙ R .runs;
-    reads = λ more.
-        ap (answersIn (q ∷ qs)) (append-assoc A (R .numbers) more) ∙ reads (R .numbers ++ more) ∙ R .reads more;
-  }
+-- a request that only looks
+looked-step : (q : Request) (qs : List Request) (ns A : List ℕ) (W : Network) (past : List Answered) → reply q W ≡ replied A W
+    → callsIn (q ∷ qs) ≡ callsIn qs → ((l : List ℕ) → answersIn (q ∷ qs) (A ++ l) ≡ answersIn qs l)
+    → Replayed qs (ns ++ A) W past → Replayed (q ∷ qs) ns W past
+looked-step q qs ns A W past e calls reads R = record {
+  numbers = A ++ R .numbers;
+  new = R .new;
+  last = R .last;
+  tells = told q qs ns A W W e ∙ R .tells ∙ ap (λ (l : List ℕ). replied l (R .last)) (append-assoc ns A (R .numbers));
+  runs = ap (λ (cs : List Call). runCallsFrom cs (ranTo W past)) calls ∙ R .runs;
+  reads = λ more.
+      ap (answersIn (q ∷ qs)) (append-assoc A (R .numbers) more) ∙ reads (R .numbers ++ more) ∙ R .reads more;
+}
 
-  replayed : (qs : List Request) (ns : List ℕ) (W : Network) (past : List Answered) → Replayed P qs ns W past
-  unfolding callsIn answersIn reply runFrom runCallsFrom logNumbers
-  replayed [] ns W past = record {
-    numbers = [];
-    new = [];
-    last = W;
-    tells = ap (λ (l : List ℕ). replied l W) (sym (append-nil ns));
-    runs = ap (ranTo W) (sym (append-nil past));
-    reads = λ more. refl;
-  }
-  replayed (Send s g w n ∷ qs) ns W past =
-      called-step (Send s g w n) qs (SendCall s g w n) ns W past refl refl (λ l. refl) (replayed qs _ _ _)
-  replayed (Arrive j n m ∷ qs) ns W past =
-      called-step (Arrive j n m) qs (ArriveCall j n m) ns W past refl refl (λ l. refl) (replayed qs _ _ _)
-  replayed (Log u m ∷ qs) ns W past =
-      let part = handedBack (log P u m W) in
-      looked-step (Log u m) qs ns (logNumbers part) W past refl refl
-      (λ l. ap (answersIn qs) (drop-at (logNumbers part) l (3 + length part) (omega arith))) (replayed qs _ _ _)
-  replayed (Length u m ∷ qs) ns W past =
-      let a = lengthAnswer (log P u m W) in
-      looked-step (Length u m) qs ns (lengthNumbers a) W past refl refl
-      (λ l. ap (answersIn qs) (drop-at (lengthNumbers a) l 3 (length-length a))) (replayed qs _ _ _)
-  replayed (Rest n ∷ qs) ns W past =
-      let a = restOf n W in
-      looked-step (Rest n) qs ns (restNumbers a) W past refl refl
-      (λ l. ap (answersIn qs) (drop-at (restNumbers a) l 3 (rest-length a))) (replayed qs _ _ _)
+replayed : (qs : List Request) (ns : List ℕ) (W : Network) (past : List Answered) → Replayed qs ns W past
+unfolding callsIn answersIn reply runFrom runCallsFrom logNumbers
+replayed [] ns W past = record {
+  numbers = [];
+  new = [];
+  last = W;
+  tells = ap (λ (l : List ℕ). replied l W) (sym (append-nil ns));
+  runs = ap (ranTo W) (sym (append-nil past));
+  reads = λ more. refl;
+}
+replayed (Send s g w n ∷ qs) ns W past =
+    called-step (Send s g w n) qs (SendCall s g w n) ns W past refl refl (λ l. refl) (replayed qs _ _ _)
+replayed (Arrive j n m ∷ qs) ns W past =
+    called-step (Arrive j n m) qs (ArriveCall j n m) ns W past refl refl (λ l. refl) (replayed qs _ _ _)
+replayed (Log u m ∷ qs) ns W past =
+    let part = handedBack (log u m W) in
+    looked-step (Log u m) qs ns (logNumbers part) W past refl refl
+    (λ l. ap (answersIn qs) (drop-at (logNumbers part) l (3 + length part) (omega arith))) (replayed qs _ _ _)
+replayed (Length u m ∷ qs) ns W past =
+    let a = lengthAnswer (log u m W) in
+    looked-step (Length u m) qs ns (lengthNumbers a) W past refl refl
+    (λ l. ap (answersIn qs) (drop-at (lengthNumbers a) l 3 (length-length a))) (replayed qs _ _ _)
+replayed (Rest n ∷ qs) ns W past =
+    let a = restOf n W in
+    looked-step (Rest n) qs ns (restNumbers a) W past refl refl
+    (λ l. ap (answersIn qs) (drop-at (restNumbers a) l 3 (rest-length a))) (replayed qs _ _ _)
 
 -- ---- the lists left, read
 
@@ -164,9 +162,9 @@ records-read [] more = refl
 records-read (h ∷ hs) more = ap (λ (l : List Hop). h ∷ l) (records-read hs more)
 
 -- the bench's numbers: the hops made, and the length of each log
-made-at : (P : Plan) (W : Network) (more : List ℕ) → getD (benchNumbers P W ++ more) 0 0 ≡ length (hopsOf W)
+made-at : (W : Network) (more : List ℕ) → getD (benchNumbers W ++ more) 0 0 ≡ length (hopsOf W)
 unfolding benchNumbers
-made-at P W more = refl
+made-at W more = refl
 
 behind-four : (a b c d : ℕ) (f : ℕ → ℕ) (rest more : List ℕ) (u : ℕ) → u < 32
     → getD ((a ∷ b ∷ c ∷ d ∷ [] ++ (tabulate 32 f ++ rest)) ++ more) (4 + u) 0 ≡ f u
@@ -176,11 +174,11 @@ behind-four a b c d f rest more u small =
     ∙ append-at (tabulate 32 f ++ rest) more 0 u (omega (arith, length-append (tabulate 32 f) rest, size, small))
     ∙ append-at (tabulate 32 f) rest 0 u (omega (arith, size, small)) ∙ getD-tabulate 32 f u 0 small
 
-length-at : (P : Plan) (W : Network) (more : List ℕ) (u : ℕ) → u < 32
-    → getD (benchNumbers P W ++ more) (4 + u) 0 ≡ length (logOf u W)
+length-at : (W : Network) (more : List ℕ) (u : ℕ) → u < 32
+    → getD (benchNumbers W ++ more) (4 + u) 0 ≡ length (logOf u W)
 unfolding benchOut benchOf totalsOf
-length-at P W more u small =
-    ap (λ (l : List ℕ). getD (l ++ more) (4 + u) 0) (sym (bench-out P W))
+length-at W more u small =
+    ap (λ (l : List ℕ). getD (l ++ more) (4 + u) 0) (sym (bench-out W))
     ∙ behind-four _ _ _ _ (λ v. length (logOf v W)) _ more u small
 
 -- ---- a call that was not refused
@@ -240,8 +238,8 @@ module _ (g : Given) (a : Told) (book hops bench replies : List ℕ) (promise : 
   unfolding planOf refusalOf
   planned = checked (g .parents) (forest-accepted (resultsShort g) _ (freshShort g) none) refl
 
-  abbrev R : Replayed P (requests g) [] fresh []
-  R = replayed P (requests g) [] fresh []
+  abbrev R : Replayed (requests g) [] (freshOn P) []
+  R = replayed (requests g) [] (freshOn P) []
 
   abbrev W : Network
   W = R .last
@@ -266,13 +264,18 @@ module _ (g : Given) (a : Told) (book hops bench replies : List ℕ) (promise : 
   unfolding repliesOf
   answers-read = ap (answersIn (requests g)) (left-so repliesOf (g .replies) (promise .leaves-replies)) ∙ R .reads _
 
-  within : Limits P W
+  within : Limits W
   unfolding networkOf
-  within = subst (λ (r : Run). Limits P (networkOf r)) runs (limits P planned (callsIn (requests g)))
+  within = subst (λ (r : Run). Limits (networkOf r)) runs (limits P planned (callsIn (requests g)))
 
-  bench-is : bench ≡ benchNumbers P W ++ drop (length (benchNumbers P W)) (g .bench)
+  few-units : planInUse W .units ≤ 32
+  unfolding networkOf
+  few-units = subst (λ (r : Run). planInUse (networkOf r) .units ≤ 32) runs
+      (valid-forest _ (run-valid P planned (callsIn (requests g))) .few)
+
+  bench-is : bench ≡ benchNumbers W ++ drop (length (benchNumbers W)) (g .bench)
   unfolding stateOf
-  bench-is = left-so (λ r. benchNumbers P (stateOf r)) (g .bench) (promise .leaves-bench)
+  bench-is = left-so (λ r. benchNumbers (stateOf r)) (g .bench) (promise .leaves-bench)
 
   book-is : book ≡ logBook W ++ drop (length (logBook W)) (g .book)
   unfolding stateOf
@@ -305,15 +308,15 @@ module _ (g : Given) (a : Told) (book hops bench replies : List ℕ) (promise : 
   unfolding logIn logBook
   log-is u = by-cases (decLt u 32)
       (λ small. ap (λ (t : Bool). cond t (take (getD bench (4 + u) 0) (drop (u * 200) book)) []) (lt-ltb u 32 small)
-      ∙ (λ i. take ((ap (λ (l : List ℕ). getD l (4 + u) 0) bench-is ∙ length-at P W _ u small) i) (drop (u * 200) (book-is i)))
+      ∙ (λ i. take ((ap (λ (l : List ℕ). getD l (4 + u) 0) bench-is ∙ length-at W _ u small) i) (drop (u * 200) (book-is i)))
       ∙ book-part (λ v. logOf v W) u _ small (within .log))
       (λ large. ap (λ (t : Bool). cond t (take (getD bench (4 + u) 0) (drop (u * 200) book)) []) (le-ltb u 32 (omega (arith, large)))
-      ∙ sym (within .units u (omega (arith, large, planned-forest P planned .few))))
+      ∙ sym (within .units u (omega (arith, large, few-units))))
 
   rest-is : restIn bench hops ≡ quiescent W
   unfolding restIn quiescent
   rest-is =
-      (λ i. allTaken (recordsIn ((ap (λ (l : List ℕ). getD l 0 0) bench-is ∙ made-at P W _) i) (made-are i)))
+      (λ i. allTaken (recordsIn ((ap (λ (l : List ℕ). getD l 0 0) bench-is ∙ made-at W _) i) (made-are i)))
       ∙ ap allTaken (records-read (hopsOf W) unmade)
 
   pub replay-demand-3 : ReplayDemand3 g book hops bench replies
@@ -333,19 +336,19 @@ module _ (g : Given) (a : Told) (book hops bench replies : List ℕ) (promise : 
       let past-is : past ≡ answersIn (requests g) replies = list-history P planned C cs e ∙ ap historyOf runs ∙ sym answers-read in
       let handed : (u : ℕ) → _ ≡ logOf u W = λ u.
       list-log P planned C cs e u [] _ (log-promise b u (bk ++ []))
-      ∙ handed-log P u 6400 (networkOf (runCalls P cs)) (limits P planned cs) (omega arith)
+      ∙ handed-log u 6400 (networkOf (runCalls P cs)) (limits P planned cs) (omega arith)
       ∙ ap (λ (r : Run). logOf u (networkOf r)) runs in
-      let size = hop-records-length P W within in
+      let size = hop-records-length W within in
       let read : recordsIn 2000 hops ≡ hopRecords W =
       (λ i. recordsIn (sym size i) (hops-are i)) ∙ records-read (hopRecords W) behind in
-      let numbers : take 6400 book ≡ logBook W = ap (take 6400) book-is ∙ take-at (logBook W) _ 6400 (log-book-length P W within) in
+      let numbers : take 6400 book ≡ logBook W = ap (take 6400) book-is ∙ take-at (logBook W) _ 6400 (log-book-length W within) in
       record {
         planned = planned;
         last = b;
         chain = coe 0 1 (i. Called P (past-is i) b ((N .records ∙ ap hopRecords same ∙ sym read) i)
             ((N .numbers ∙ ap logBook same ∙ sym numbers) i)) C;
-        numbers = ap (take 2684) bench-is ∙ take-at (benchNumbers P W) _ 2684 (bench-length P W)
-            ∙ sym (ap benchOut (N .bench ∙ ap (benchOf P) same) ∙ bench-out P W);
+        numbers = ap (take 2684) bench-is ∙ take-at (benchNumbers W) _ 2684 (bench-length W)
+            ∙ sym (ap benchOut (N .bench ∙ ap benchOf same) ∙ bench-out W);
         logs = λ u small. (
           [],
           coe 0 1 (i. LogPromise b u ((N .numbers ∙ ap logBook same ∙ sym numbers) i ++ [])

@@ -8,8 +8,8 @@ use lib.Dec.{ltb, eqb}
 use Rattle.layout.specs.Tables.{tabulate}
 use Rattle.forest.specs.Calls.{checkRefusal, checkParents}
 use Rattle.model.specs.declared.Hop.{Hop}
-use Rattle.model.specs.Network.{Plan, Network, fresh, messagesOf, hopsOf, logOf, isTaken, countHops, pairCount, pairTaken}
-use Rattle.model.specs.Rules.{Outcome, outcome, routeTotal}
+use Rattle.model.specs.Network.{Plan, Network, freshOn, messagesOf, hopsOf, logOf, isTaken, countHops, pairCount, pairTaken}
+use Rattle.model.specs.Rules.{Outcome, outcome, routed}
 use Rattle.model.specs.Calls.{Send as SendCall, Arrive as ArriveCall, call, log, rest}
 use Rattle.bench_promises.specs.State.{joined, hopRecords, logBook, messageColumn}
 use Rattle.bench_promises.specs.Promises.{handedBack, lengthAnswer}
@@ -60,23 +60,23 @@ pub data Replied : Type 0 where
 unfoldable pub answeredAs : Outcome → Replied
 answeredAs (outcome a W) = replied (answerNumbers a) W
 
-unfoldable pub reply : Plan → Request → Network → Replied
-reply P (Send s g w n) W = answeredAs (call P (SendCall s g w n) W)
-reply P (Arrive j n m) W = answeredAs (call P (ArriveCall j n m) W)
-reply P (Log u m) W = replied (logNumbers (handedBack (log P u m W))) W
-reply P (Length u m) W = replied (lengthNumbers (lengthAnswer (log P u m W))) W
-reply P (Rest n) W = replied (restNumbers (rest n W)) W
+unfoldable pub reply : Request → Network → Replied
+reply (Send s g w n) W = answeredAs (call (SendCall s g w n) W)
+reply (Arrive j n m) W = answeredAs (call (ArriveCall j n m) W)
+reply (Log u m) W = replied (logNumbers (handedBack (log u m W))) W
+reply (Length u m) W = replied (lengthNumbers (lengthAnswer (log u m W))) W
+reply (Rest n) W = replied (restNumbers (rest n W)) W
 
 unfoldable pub followed : List ℕ → Replied → Replied
 followed numbers (replied more W) = replied (numbers ++ more) W
 
-unfoldable pub runFrom : Plan → List Request → Replied → Replied
-runFrom P [] r = r
-runFrom P (q ∷ qs) (replied numbers W) = runFrom P qs (followed numbers (reply P q W))
+unfoldable pub runFrom : List Request → Replied → Replied
+runFrom [] r = r
+runFrom (q ∷ qs) (replied numbers W) = runFrom qs (followed numbers (reply q W))
 
--- on a fresh bench
+-- from the fresh bench on a forest
 unfoldable pub run : Plan → List Request → Replied
-run P qs = runFrom P qs (replied [] fresh)
+run P qs = runFrom qs (replied [] (freshOn P))
 
 -- ---- what is left, as numbers
 
@@ -92,9 +92,9 @@ nines = record { sender = 9; receiver = 9; sequence = 9; message = 9; state = 9 
 unfoldable pub lastRecords : Network → List Hop
 lastRecords W = hopRecords W ++ replicate 8 nines
 
-unfoldable pub benchNumbers : Plan → Network → List ℕ
-benchNumbers P W =
-    length (hopsOf W) ∷ countHops isTaken (hopsOf W) ∷ length (messagesOf W) ∷ routeTotal P (messagesOf W) ∷ []
+unfoldable pub benchNumbers : Network → List ℕ
+benchNumbers W =
+    length (hopsOf W) ∷ countHops isTaken (hopsOf W) ∷ length (messagesOf W) ∷ routed W ∷ []
     ++ tabulate 32 (λ u. length (logOf u W))
     ++ messageColumn (λ x. x .source) (messagesOf W)
     ++ messageColumn (λ x. x .group) (messagesOf W)
@@ -183,5 +183,5 @@ pub record CallsPromise (g : Given) (answer : Answer) (book hops bench replies :
       ≡ unlessRefused (refusalOf g) (0 ∷ length (requests g) ∷ length (repliesOf (ran g)) ∷ []) (refusedFor (refusalOf g))
   pub leaves-book : book ≡ unlessRefused (refusalOf g) (over (logBook (stateOf (ran g))) (g .book)) (g .book)
   pub leaves-hops : hops ≡ unlessRefused (refusalOf g) (over (hopNumbers (lastRecords (stateOf (ran g)))) (g .hops)) (g .hops)
-  pub leaves-bench : bench ≡ unlessRefused (refusalOf g) (over (benchNumbers (planOf g) (stateOf (ran g))) (g .bench)) (g .bench)
+  pub leaves-bench : bench ≡ unlessRefused (refusalOf g) (over (benchNumbers (stateOf (ran g))) (g .bench)) (g .bench)
   pub leaves-replies : replies ≡ unlessRefused (refusalOf g) (over (repliesOf (ran g)) (g .replies)) (g .replies)

@@ -10,12 +10,12 @@ use Rattle.sets.specs.Sets.{member, single, union, intersection, including, inc
 use Rattle.forest.specs.Forest.{onRoute, parent, ancestorsWithin, ancestors, above, aboveEvery, aboveSome, primary, route, routeSize}
 use Rattle.model.specs.declared.Hop.{Hop}
 use Rattle.model.specs.declared.Message.{Message}
-use Rattle.model.specs.Network.{messagesOf, sumOf, bit, Plan, groupOf, primaryOf, routeOf, routeSizeOf, Network, network, fresh}
-use Rattle.model.specs.Network.{messageAt, hopAt, logOf, hopsOf, isOut, isHeld, isTaken, withState, setState, isPair, countHops}
-use Rattle.model.specs.Network.{pairCount, newHop, made}
-use Rattle.model.specs.Rules.{Answer, Refused, Sent, Repeat, Held, Taken, refuse, refused, answerOf, routeTotal, send, push, rising}
-use Rattle.model.specs.Rules.{childrenOn, forward, logged, takeHop, lower, lowestUntaken, placeOf, isHeldAt, nextHeld, tally}
-use Rattle.model.specs.Rules.{settle, hold, arrive, allTaken, quiescent}
+use Rattle.model.specs.Network.{messagesOf, sumOf, bit, Plan, groupOf, primaryOf, routeOf, routeSizeOf, noPlan, planAt, forestsOf}
+use Rattle.model.specs.Network.{Network, network, freshOn, noMessage, ledgerOf, messageAt, hopAt, logOf, hopsOf, isOut, isHeld}
+use Rattle.model.specs.Network.{isTaken, withState, setState, isPair, countHops, pairCount, newHop, made}
+use Rattle.model.specs.Rules.{Answer, Refused, Sent, Repeat, Held, Taken, refuse, refused, answerOf, routeTotal, send, push}
+use Rattle.model.specs.Rules.{rising, childrenOn, forward, logged, takeHop, lower, lowestUntaken, placeOf, isHeldAt, nextHeld}
+use Rattle.model.specs.Rules.{tally, settle, hold, arrive, allTaken, quiescent}
 use Rattle.model.specs.Calls.{Call, Send, Arrive, call, Answered, answered, recorded, step, runFrom, run, networkOf, historyOf}
 use Rattle.model.specs.Calls.{LogRefused, Log, log, RestRefused, Rest, rest}
 
@@ -40,9 +40,12 @@ three-children = record { units = 4; count = 2; groups = 11 ∷ 14 ∷ []; paren
 abbrev pub star : Plan
 star = record { units = 32; count = 2; groups = 4294967295 ∷ 131071 ∷ []; parents = 255 ∷ replicate 31 0 }
 
+unfoldable pub message : (source group word : ℕ) → Message
+message s g w = record { source = s; group = g; word = w; forest = 0 }
+
 -- so many messages to a group
-abbrev pub after-sends : ℕ → ℕ → Network
-after-sends n g = network (replicate n (record { source = 0; group = g; word = 0 })) [] []
+abbrev pub after-sends : Plan → ℕ → ℕ → Network
+after-sends P n g = network (record { earlier = []; inUse = P }) (replicate n (message 0 g 0)) [] []
 
 -- calls lent whole lists, and their answers
 abbrev pub sends : ℕ → ℕ → ℕ → Call
@@ -60,25 +63,22 @@ answers P cs = map answered-with (historyOf (run P cs))
 unfoldable pub hop : (sender receiver sequence message state : ℕ) → Hop
 hop s r q m k = record { sender = s; receiver = r; sequence = q; message = m; state = k }
 
-unfoldable pub message : (source group word : ℕ) → Message
-message s g w = record { source = s; group = g; word = w }
-
 abbrev pub two : List Call
 two = sends 0 0 7 ∷ sends 0 0 8 ∷ arrives 1 ∷ arrives 1 ∷ arrives 0 ∷ arrives 0 ∷ []
 
 pub record Benches : Type 0 where
-  -- a message is recorded with its word
+  -- a message is recorded with its word and its forest
   pub word : messagesOf (networkOf (run bench-C (sends 3 0 500 ∷ []))) ≡ message 3 0 500 ∷ []
   -- message 1, to units 0 and 3, goes on through the carrier, unit 2
   pub carrier-hop : hopsOf (networkOf (run bench-C (sends 3 0 500 ∷ arrives 0 ∷ []))) ≡ hop 3 0 1 1 2 ∷ hop 0 2 1 1 0 ∷ []
   -- which does not log it
-  pub carrier-log : log bench-C 2 6400 (networkOf (run bench-C (sends 3 0 500 ∷ arrives 0 ∷ arrives 1 ∷ []))) ≡ Log []
+  pub carrier-log : log 2 6400 (networkOf (run bench-C (sends 3 0 500 ∷ arrives 0 ∷ arrives 1 ∷ []))) ≡ Log []
   -- sequence numbers count by pair: one source, two receivers
   pub by-pair : map (λ h. h .sequence) (hopsOf (networkOf (run bench-C (sends 3 0 1 ∷ sends 3 2 2 ∷ sends 3 0 3 ∷ []))))
       ≡ 1 ∷ 1 ∷ 2 ∷ []
   -- one source, one group: the second message waits for the first, and the log has the sent order; a held and a taken hop are repeats
   pub order-answers : answers single-unit two ≡ Sent 1 ∷ Sent 2 ∷ Held ∷ Repeat ∷ Taken 2 ∷ Repeat ∷ []
-  pub order-log : log single-unit 0 6400 (networkOf (run single-unit two)) ≡ Log (1 ∷ 2 ∷ [])
+  pub order-log : log 0 6400 (networkOf (run single-unit two)) ≡ Log (1 ∷ 2 ∷ [])
   -- hops to children in rising unit number
   pub children : hopsOf (networkOf (run three-children (sends 2 0 7 ∷ arrives 0 ∷ [])))
       ≡ hop 2 1 1 1 2 ∷ hop 1 0 1 1 0 ∷ hop 1 3 1 1 0 ∷ []
@@ -88,17 +88,18 @@ pub record Benches : Type 0 where
   pub refusals : answers bench-C (Send 4 9 0 1999 ∷ sends 0 4 0 ∷ arrives 0 ∷ Arrive 0 1999 6400 ∷ Arrive 0 2000 6399 ∷ [])
       ≡ Refused 1 ∷ Refused 13 ∷ Refused 16 ∷ Refused 1 ∷ Refused 1 ∷ []
   -- 200 messages, and one more
-  pub too-many : answerOf (send single-unit 0 0 7 (after-sends 200 0)) ≡ Refused 14
+  pub too-many : answerOf (send 0 0 7 (after-sends single-unit 200 0)) ≡ Refused 14
   -- 62 times 32 and 17 are 2,001
-  pub too-far : answerOf (send star 0 1 7 (after-sends 62 0)) ≡ Refused 15
-  pub log-refused : log bench-C 4 6400 fresh ≡ LogRefused 17
-  pub log-short : log bench-C 4 6399 fresh ≡ LogRefused 1
-  pub rest-short : rest 1999 fresh ≡ RestRefused 1
+  pub too-far : answerOf (send 0 1 7 (after-sends star 62 0)) ≡ Refused 15
+  pub log-refused : log 4 6400 (freshOn bench-C) ≡ LogRefused 17
+  pub log-short : log 4 6399 (freshOn bench-C) ≡ LogRefused 1
+  pub rest-short : rest 1999 (freshOn bench-C) ≡ RestRefused 1
 
 pub benches : Benches
 unfolding onesIn trailingZeros member single union intersection including includingIf size lowest collect onRoute parent
     ancestorsWithin ancestors above aboveEvery aboveSome primary route routeSize groupOf primaryOf routeOf routeSizeOf
-    fresh messageAt hopAt logOf hopsOf isOut isHeld isTaken withState setState isPair sumOf bit countHops pairCount newHop made
+    noPlan planAt forestsOf freshOn noMessage ledgerOf messageAt hopAt logOf hopsOf isOut isHeld isTaken withState setState isPair sumOf
+    bit countHops pairCount newHop made
     refuse refused answerOf routeTotal send push rising childrenOn forward logged takeHop lower lowestUntaken placeOf
     isHeldAt nextHeld tally settle hold arrive allTaken quiescent call recorded step runFrom run networkOf historyOf
     log rest answered-with answers hop message messagesOf

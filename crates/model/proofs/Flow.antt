@@ -1,4 +1,4 @@
--- The hops of a bench and its history: kept by a send, by holding a copy and by taking one. Assumes nothing.
+-- The hops of a bench and its history: kept by a send, by another state of a copy that is not taken, and by taking one. Assumes nothing.
 use mathlib.Core.Path.{_≡_, refl, sym, ap, subst, _∙_}
 use mathlib.Core.Logic.{⊎-elim, by-cases}
 use mathlib.Core.Bool.{Bool, true, false, _&&_, _||_, false≢true}
@@ -16,17 +16,18 @@ use Rattle.forest.specs.Forest.{parent}
 use Rattle.forest.specs.Claims.{Acyclic}
 use Rattle.model.specs.declared.Hop.{Hop}
 use Rattle.model.specs.declared.Message.{Message}
-use Rattle.model.specs.Network.{Plan, primaryOf, routeOf, messageAt, hopAt, isTaken, withState, setState, isPair, newHop, made}
+use Rattle.model.specs.Network.{Plan, primaryOf, routeOf, planAt, planFor, primaryFor, routeFor, messageAt, hopAt, isTaken}
+use Rattle.model.specs.Network.{withState, setState, isPair, newHop, made}
 use Rattle.model.specs.Rules.{push, childrenOn, forward}
 use Rattle.model.specs.Demand3.{In, here, there, Before, Distinct, adds}
-use Rattle.model.proofs.Lists.{in-push, in-push-front, in-push-cases}
-use Rattle.model.proofs.Histories.{Scheme, History, start, sent, took, mail, taken, enters, passes, queue, sender, Legal}
-use Rattle.model.proofs.Histories.{legal-start, legal-sent, legal-took}
-use Rattle.model.proofs.Order.{queue-sender, queue-on, taken-mail, forwarded, taken-queued, queue-distinct, sender-below}
+use Rattle.model.proofs.Lists.{in-push, in-push-front, in-push-cases, before-in}
+use Rattle.model.proofs.Histories.{Scheme, parentFor, depthFor, History, start, sent, took, mail, taken, enters, passes, queue}
+use Rattle.model.proofs.Histories.{sender, Current, Legal, legal-start, legal-sent, legal-took}
+use Rattle.model.proofs.Order.{queue-sender, queue-on, taken-mail, forwarded, taken-queued, queue-distinct, sender-below, fifo}
 use Rattle.model.proofs.Subtrees.{depth, depth-parent, depth-primary, route-unit, child-not-primary, children-in, in-children}
 use Rattle.model.proofs.Subtrees.{children-distinct}
 use Rattle.model.proofs.Hops.{AllHops, all-snoc, all-state, all-forward, queued, queued-snoc, queued-state, queued-in, Carries}
-use Rattle.model.proofs.Hops.{in-queued, before-queued, queued-once}
+use Rattle.model.proofs.Hops.{in-queued, before-queued, queued-before, queued-once}
 use Rattle.model.proofs.Sequences.{pair-ends, held-untaken, Next}
 
 -- ---- the queues that forwarding makes
@@ -69,28 +70,32 @@ queued-forward v m (c ∷ cs) (adds n d) a b hs =
     merge true false false l f = refl
     merge false p q l f = refl
 
--- ---- the scheme of a plan and a table of messages
+-- ---- the scheme of a table of forests and a table of messages
 
-module _ (P : Plan) (acyclic : Acyclic (P .parents)) (T : List Message) where
-  pub route-parent : (m u : ℕ) → member (routeOf P (messageAt T m .group)) u ≡ true
-      → depth (P .parents) (parent (P .parents) u) < depth (P .parents) u
+module _ (F : List Plan) (acyclic : (f : ℕ) → Acyclic (planAt F f .parents)) (T : List Message) where
+  -- the parents of message m's forest
+  abbrev parentsOf : ℕ → List ℕ
+  parentsOf m = planFor F (messageAt T m) .parents
+
+  pub route-parent : (m u : ℕ) → member (routeFor F (messageAt T m)) u ≡ true
+      → depth (parentsOf m) (parent (parentsOf m) u) < depth (parentsOf m) u
   unfolding routeOf
-  route-parent m u h = depth-parent (P .parents) acyclic u (route-unit (P .parents) _ u h)
+  route-parent m u h = depth-parent (parentsOf m) (acyclic _) u (route-unit (parentsOf m) _ u h)
 
-  pub route-primary : (m u : ℕ) → member (routeOf P (messageAt T m .group)) u ≡ true
-      → (u ≡ primaryOf P (messageAt T m .group) → ⊥)
-      → depth (P .parents) (primaryOf P (messageAt T m .group)) < depth (P .parents) u
+  pub route-primary : (m u : ℕ) → member (routeFor F (messageAt T m)) u ≡ true → (u ≡ primaryFor F (messageAt T m) → ⊥)
+      → depth (parentsOf m) (primaryFor F (messageAt T m)) < depth (parentsOf m) u
   unfolding routeOf primaryOf
-  route-primary m u h n = depth-primary (P .parents) acyclic _ u h n
+  route-primary m u h n = depth-primary (parentsOf m) (acyclic _) _ u h n
 
-  -- of a message, what its own group has
+  -- of a message, what its own forest and group have
   abbrev pub schemeOf : Scheme
   schemeOf = record {
-    parent = parent (P .parents);
-    depth = depth (P .parents);
+    era = λ m. messageAt T m .forest;
+    parent = λ f. parent (planAt F f .parents);
+    depth = λ f. depth (planAt F f .parents);
     source = λ m. messageAt T m .source;
-    primary = λ m. primaryOf P (messageAt T m .group);
-    on = λ m u. member (routeOf P (messageAt T m .group)) u;
+    primary = λ m. primaryFor F (messageAt T m);
+    on = λ m u. member (routeFor F (messageAt T m)) u;
     parent-falls = route-parent;
     primary-falls = route-primary;
   }
@@ -112,11 +117,11 @@ module _ (P : Plan) (acyclic : Acyclic (P .parents)) (T : List Message) where
   -- a hop's message stands in its pair's queue, and a queue's message has a hop
   pub hop-queue : {H : History} {hs : List Hop} → Flow H hs → (s r i : ℕ) → i < length hs → isPair s r (hopAt hs i) ≡ true
       → In (hopAt hs i .message) (queue schemeOf H s r)
-  hop-queue {hs = hs} F s r i b p = subst (λ (l : List ℕ). In (hopAt hs i .message) l) (F .queues s r) (queued-in s r hs i b p)
+  hop-queue {hs = hs} K s r i b p = subst (λ (l : List ℕ). In (hopAt hs i .message) l) (K .queues s r) (queued-in s r hs i b p)
 
-  pub queue-hop : {H : History} {hs : List Hop} → Flow H hs → (s r m : ℕ) → In m (queue schemeOf H s r)
-      → (i : ℕ) × Carries s r m hs i
-  queue-hop {hs = hs} F s r m q = in-queued s r m hs (subst (λ (l : List ℕ). In m l) (sym (F .queues s r)) q)
+  pub queue-hop : {H : History} {hs : List Hop} → Flow H hs → (s r m : ℕ) → In m (queue schemeOf H s r) → (i : ℕ)
+      × Carries s r m hs i
+  queue-hop {hs = hs} K s r m q = in-queued s r m hs (subst (λ (l : List ℕ). In m l) (sym (K .queues s r)) q)
 
   pub flow-start : Flow start []
   unfolding queued queue AllHops
@@ -125,35 +130,52 @@ module _ (P : Plan) (acyclic : Acyclic (P .parents)) (T : List Message) where
   -- ---- a send
 
   pub flow-sent : (H : History) (hs : List Hop) (m : ℕ) → Flow H hs → (In m (mail H) → ⊥) → S .on m (S .primary m) ≡ true
-      → Flow (sent m H) (made (S .source m) (S .primary m) m hs)
+      → Current S H (S .era m) (mail H) → Flow (sent m H) (made (S .source m) (S .primary m) m hs)
   unfolding queue enters made newHop isTaken taken AllHops isPair
-  flow-sent H hs m F fresh on = record {
-    legal = legal-sent (F .legal) fresh on;
-    queues = λ s r. queued-snoc s r hs (newHop (S .source m) (S .primary m) m hs) ∙ ap (push (enters S m s r) m) (F .queues s r);
+  flow-sent H hs m K fresh on eras = record {
+    legal = legal-sent (K .legal) fresh on eras;
+    queues = λ s r. queued-snoc s r hs (newHop (S .source m) (S .primary m) m hs) ∙ ap (push (enters S m s r) m) (K .queues s r);
     marks = all-snoc (Marked (sent m H)) hs (newHop (S .source m) (S .primary m) m hs)
-        (λ i b. let k = F .marks i b in record { done = k .done; only = k .only })
-        (record { done = λ t. absurd (false≢true t); only = λ i. absurd (fresh (taken-mail S (F .legal) (S .primary m) i)) });
+        (λ i b. let k = K .marks i b in record { done = k .done; only = k .only })
+        (record { done = λ t. absurd (false≢true t); only = λ i. absurd (fresh (taken-mail S (K .legal) (S .primary m) i)) });
   }
 
-  -- ---- holding a copy
+  -- ---- a copy that is not taken before and after
 
-  pub flow-held : (H : History) (hs : List Hop) (j : ℕ) → Flow H hs → isTaken (hopAt hs j) ≡ false → Flow H (setState j 1 hs)
+  pub flow-state : (H : History) (hs : List Hop) (j k : ℕ) → Flow H hs → isTaken (hopAt hs j) ≡ false → k < 2
+      → Flow H (setState j k hs)
   unfolding AllHops withState isTaken
-  flow-held H hs j F waits = record {
-    legal = F .legal;
-    queues = λ s r. queued-state s r j 1 hs ∙ F .queues s r;
-    marks = all-state (Marked H) j 1 hs (λ i b n. F .marks i b)
-        (λ b. record { done = λ t. absurd (false≢true t); only = λ i. absurd (clash (F .marks j b .only i) waits) });
+  flow-state H hs j k K waits low = record {
+    legal = K .legal;
+    queues = λ s r. queued-state s r j k hs ∙ K .queues s r;
+    marks = all-state (Marked H) j k hs (λ i b n. K .marks i b) (λ b. record {
+      done = λ t. absurd (clash t (ne-eqb k 2 (λ e. absurd (omega arith))));
+      only = λ i. absurd (clash (K .marks j b .only i) waits);
+    });
   }
+
+  -- ---- a pair's hops are taken in the order made
+
+  pub flow-first : (H : History) (hs : List Hop) → Flow H hs → (s r i j : ℕ) → i < j → j < length hs
+      → isPair s r (hopAt hs i) ≡ true
+      → isPair s r (hopAt hs j) ≡ true → isTaken (hopAt hs j) ≡ true → isTaken (hopAt hs i) ≡ true
+  unfolding AllHops
+  flow-first H hs K s r i j l b p q t =
+      let b′ : i < length hs = omega arith in
+      let waiting = subst (λ (k : List ℕ). Before (hopAt hs j .message) (hopAt hs i .message) k) (K .queues s r)
+      (queued-before s r hs i j l b p q) in
+      let done = subst (λ (x : ℕ). In (hopAt hs j .message) (taken H x)) (pair-ends s r (hopAt hs j) q .1) (K .marks j b .done t) in
+      K .marks i b′ .only (subst (λ (x : ℕ). In (hopAt hs i .message) (taken H x)) (sym (pair-ends s r (hopAt hs i) p .1))
+      (before-in (fifo S (K .legal) s r waiting done) .1))
 
   -- ---- taking a copy
 
-  module _ (H : History) (hs : List Hop) (F : Flow H hs) (s r j : ℕ) (N : Next s r hs j) where
+  module _ (H : History) (hs : List Hop) (K : Flow H hs) (s r j : ℕ) (N : Next s r hs j) where
     m : ℕ
     m = hopAt hs j .message
 
     cs : List ℕ
-    cs = childrenOn (P .parents) (routeOf P (messageAt T m .group)) r
+    cs = childrenOn (parentsOf m) (routeFor F (messageAt T m)) r
 
     receiver-is : hopAt hs j .receiver ≡ r
     receiver-is = pair-ends s r (hopAt hs j) (N .pair) .1
@@ -167,66 +189,70 @@ module _ (P : Plan) (acyclic : Acyclic (P .parents)) (T : List Message) where
 
     waiting : In m (queue S H s r)
     unfolding m
-    waiting = hop-queue F s r j (N .within) (N .pair)
+    waiting = hop-queue K s r j (N .within) (N .pair)
 
     -- a hop from a to r with message m is hop j
     same-hop : (i a : ℕ) → Carries a r m hs i → i ≡ j
     same-hop i a c =
         let q : In m (queue S H a r) = subst (λ (x : ℕ). In x (queue S H a r)) (c .message-is)
-        (hop-queue F a r i (c .within) (c .pair)) in
+        (hop-queue K a r i (c .within) (c .pair)) in
         let c′ : Carries s r m hs i =
         subst (λ (x : ℕ). Carries x r m hs i) (sym (queue-sender S H a r q) ∙ queue-sender S H s r waiting) c in
-        let once = subst (λ (l : List ℕ). Distinct l) (sym (F .queues s r)) (queue-distinct S (F .legal) s r) in
+        let once = subst (λ (l : List ℕ). Distinct l) (sym (K .queues s r)) (queue-distinct S (K .legal) s r) in
         by-cases (ℕ-discrete i j) (λ e. e) (λ n. by-cases (decLt i j)
         (λ l. absurd (queued-once s r m hs once i j l c′ at-j))
         (λ l. absurd (queued-once s r m hs once j i (let z : j < i = omega arith in z) at-j c′)))
 
     untaken : In m (taken H r) → ⊥
     unfolding m AllHops
-    untaken i = clash (F .marks j (N .within) .only (subst (λ (x : ℕ). In m (taken H x)) (sym receiver-is) i)) waits
+    untaken i = clash (K .marks j (N .within) .only (subst (λ (x : ℕ). In m (taken H x)) (sym receiver-is) i)) waits
 
     -- all older messages of the queue were taken
     older : (x : ℕ) → Before m x (queue S H s r) → In x (taken H r)
     unfolding AllHops
     older x p =
-        let (i, k, l, ci, ck) = before-queued s r m x hs (subst (λ (q : List ℕ). Before m x q) (sym (F .queues s r)) p) in
+        let (i, k, l, ci, ck) = before-queued s r m x hs (subst (λ (q : List ℕ). Before m x q) (sym (K .queues s r)) p) in
         let e = same-hop k s ck in
-        let t = F .marks i (ci .within) .done (N .older i (omega arith) (ci .pair)) in
+        let t = K .marks i (ci .within) .done (N .older i (omega arith) (ci .pair)) in
         let r-is = pair-ends s r (hopAt hs i) (ci .pair) .1 in
         subst (λ (y : ℕ). In y (taken H r)) (ci .message-is) (subst (λ (y : ℕ). In (hopAt hs i .message) (taken H y)) r-is t)
 
     on-route : S .on m r ≡ true
-    on-route = queue-on S (F .legal) s r waiting
+    on-route = queue-on S (K .legal) s r waiting
 
     -- the children on the route are the units that the history passes the message on to
-    child-passes : (c : ℕ) → In c cs → (S .parent c ≡ r) × (S .on m c ≡ true) × (c ≡ S .primary m → ⊥)
+    child-passes : (c : ℕ) → In c cs → (parentFor S m c ≡ r) × (S .on m c ≡ true) × (c ≡ S .primary m → ⊥)
     unfolding cs routeOf primaryOf
     child-passes c i =
-        let k = children-in (P .parents) (routeOf P (messageAt T m .group)) r c i in
-        (k .1, k .2, child-not-primary (P .parents) acyclic _ c (subst (λ (x : ℕ). S .on m x ≡ true) (sym (k .1)) on-route) (k .0))
+        let k = children-in (parentsOf m) (routeFor F (messageAt T m)) r c i in (
+          k .1,
+          k .2,
+          child-not-primary (parentsOf m) (acyclic _) _ c (subst (λ (x : ℕ). S .on m x ≡ true) (sym (k .1)) on-route)
+              (k .0),
+        )
 
     children-pass : (c : ℕ) → has c cs ≡ passes S m r c
     unfolding passes cs routeOf
     children-pass c = same-test (has c cs) (passes S m r c)
         (λ h. let k = child-passes c (has-in c cs h) in
-        and-both (eqb (S .parent c) r) _ (eq-eqb _ r (k .0))
+        and-both (eqb (parentFor S m c) r) _ (eq-eqb _ r (k .0))
         (and-both (S .on m c) _ (k .1) (not-of-false (eqb c (S .primary m)) (ne-eqb c (S .primary m) (k .2)))))
-        (λ h. let on-c = and-left (S .on m c) _ (and-right (eqb (S .parent c) r) _ h) in
-        in-has c cs (in-children (P .parents) (routeOf P (messageAt T m .group)) r c (route-unit (P .parents) _ c on-c)
-        (eqb-true _ r (and-left (eqb (S .parent c) r) _ h)) on-c))
+        (λ h. let on-c = and-left (S .on m c) _ (and-right (eqb (parentFor S m c) r) _ h) in
+        in-has c cs (in-children (parentsOf m) (routeFor F (messageAt T m)) r c (route-unit (parentsOf m) _ c on-c)
+        (eqb-true _ r (and-left (eqb (parentFor S m c) r) _ h)) on-c))
 
     took-queues : (a b : ℕ) → queued a b (forward r m cs (setState j 2 hs)) ≡ queue S (took m r H) a b
     unfolding queue cs
     took-queues a b =
-        queued-forward r m cs (children-distinct (P .parents) (routeOf P (messageAt T m .group)) r) a b (setState j 2 hs)
+        queued-forward r m cs (children-distinct (parentsOf m) (routeFor F (messageAt T m)) r) a b (setState j 2 hs)
         ∙ ap (λ t. push (eqb r a && t) m (queued a b (setState j 2 hs))) (children-pass b)
-        ∙ ap (push (eqb r a && passes S m r b) m) (queued-state a b j 2 hs ∙ F .queues a b)
+        ∙ ap (push (eqb r a && passes S m r b) m) (queued-state a b j 2 hs ∙ K .queues a b)
 
     -- another hop's mark stays
     other-mark : (i : ℕ) → i < length hs → (i ≡ j → ⊥) → Marked (took m r H) (hopAt hs i)
     unfolding taken AllHops isPair
     other-mark i b n = record {
-      done = λ t. in-push (eqb r (hopAt hs i .receiver)) m (F .marks i b .done t);
+      done = λ t. in-push (eqb r (hopAt hs i .receiver)) m (K .marks i b .done t);
       only = λ k. ⊎-elim
           (λ e. absurd (n (same-hop i (hopAt hs i .sender) (record {
             within = b;
@@ -234,7 +260,7 @@ module _ (P : Plan) (acyclic : Acyclic (P .parents)) (T : List Message) where
                 (eq-eqb (hopAt hs i .receiver) r (sym (eqb-true r _ (e .0))));
             message-is = e .1;
           }))))
-          (F .marks i b .only)
+          (K .marks i b .only)
           (in-push-cases (eqb r (hopAt hs i .receiver)) m (taken H (hopAt hs i .receiver)) k);
     }
 
@@ -251,20 +277,20 @@ module _ (P : Plan) (acyclic : Acyclic (P .parents)) (T : List Message) where
         let k = child-passes c i in record {
           done = λ t. absurd (false≢true t);
           only = λ q. ⊎-elim
-              (λ e. absurd (lt-irrefl (S .depth c)
-              (subst (λ (x : ℕ). S .depth x < S .depth c) (k .0 ∙ eqb-true r c (e .0)) (S .parent-falls m c (k .1)))))
+              (λ e. absurd (lt-irrefl (depthFor S m c)
+              (subst (λ (x : ℕ). depthFor S m x < depthFor S m c) (k .0 ∙ eqb-true r c (e .0)) (S .parent-falls m c (k .1)))))
               (λ t.
-              let from : In m (taken H (sender S m c)) = forwarded S H (sender S m c) c (taken-queued S (F .legal) c t) (k .2) in
+              let from : In m (taken H (sender S m c)) = forwarded S H (sender S m c) c (taken-queued S (K .legal) c t) (k .2) in
               absurd (untaken (subst (λ (x : ℕ). In m (taken H x)) (sender-below S m c (k .2) ∙ k .0) from)))
               (in-push-cases (eqb r c) m (taken H c) q);
         }
 
     pub flow-taken : Flow (took (hopAt hs j .message) r H)
-        (forward r (hopAt hs j .message) (childrenOn (P .parents) (routeOf P (messageAt T (hopAt hs j .message) .group)) r)
-        (setState j 2 hs))
+        (forward r (hopAt hs j .message) (childrenOn (planFor F (messageAt T (hopAt hs j .message)) .parents)
+        (routeFor F (messageAt T (hopAt hs j .message))) r) (setState j 2 hs))
     unfolding m cs
     flow-taken = record {
-      legal = legal-took (F .legal) s waiting untaken older;
+      legal = legal-took (K .legal) s waiting untaken older;
       queues = took-queues;
       marks = all-forward (Marked (took m r H)) r m cs (setState j 2 hs)
           (all-state (Marked (took m r H)) j 2 hs other-mark (λ b. own-mark)) child-mark;

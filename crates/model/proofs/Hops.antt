@@ -15,7 +15,7 @@ use Rattle.model.specs.Network.{sumOf, bit, hopAt, withState, setState, 
 use Rattle.model.specs.Rules.{forward, push}
 use Rattle.model.specs.Demand3.{In, here, there, Before, first, later, Distinct}
 use Rattle.model.proofs.Lists.{in-append-left, in-append-right, in-append-cases, before-append-cases, distinct-append-left}
-use Rattle.model.proofs.Lists.{distinct-append-apart}
+use Rattle.model.proofs.Lists.{before-append, before-append-left, distinct-append-apart}
 
 -- ---- hop i
 
@@ -203,6 +203,15 @@ before-queued s r a b (h ∷ hs) p = ⊎-elim
     alone true y (first e i) = elim i [ ]
     alone true y (later t) = elim t [ ]
     alone false y t = elim t [ ]
+
+pub queued-before : (s r : ℕ) (hs : List Hop) (i j : ℕ) → i < j → j < length hs → isPair s r (hopAt hs i) ≡ true
+    → isPair s r (hopAt hs j) ≡ true → Before (hopAt hs j .message) (hopAt hs i .message) (queued s r hs)
+unfolding queued hopAt push
+queued-before s r [] i j l b p q = absurd (not-suc-le-zero b)
+queued-before s r (h ∷ hs) i zero l b p q = absurd (not-suc-le-zero l)
+queued-before s r (h ∷ hs) zero (suc j) l b p q = before-append (queued-in s r hs j (le-of-suc-le-suc b) q) (rw p (here refl))
+queued-before s r (h ∷ hs) (suc i) (suc j) l b p q =
+    before-append-left _ (queued-before s r hs i j (le-of-suc-le-suc l) (le-of-suc-le-suc b) p q)
 
 -- no message stands in a queue for two hops
 pub queued-once : (s r m : ℕ) (hs : List Hop) → Distinct (queued s r hs) → (i j : ℕ) → i < j → Carries s r m hs i

@@ -9,7 +9,11 @@ pub mod Sequences
 pub mod Flow
 pub mod Logs
 pub mod Sound
+pub mod Rest
 pub mod Idle
+pub mod Readings
+pub mod Networks
+pub mod Settling
 pub mod Runs
 pub mod Planning
 pub mod Demand

@@ -78,6 +78,14 @@ module _ {A : Type 0} where
   before-append-cases (y ∷ l) r (later p) =
       ⊎-elim (λ q. inl (later q)) (λ q. inr (⊎-elim (λ t. inl (there (t .0), t .1)) inr q)) (before-append-cases l r p)
 
+  pub before-append : {a b : A} {l r : List A} → In a l → In b r → Before a b (l ++ r)
+  before-append (here {l = l} e) j = first e (in-append-right l j)
+  before-append (there i) j = later (before-append i j)
+
+  pub before-append-left : {a b : A} {l : List A} (r : List A) → Before a b l → Before a b (l ++ r)
+  before-append-left r (first e i) = first e (in-append-left r i)
+  before-append-left r (later p) = later (before-append-left r p)
+
   -- ---- no repeats
 
   pub distinct-push : (c : Bool) (y : A) {l : List A} → (c ≡ true → In y l → ⊥) → Distinct l → Distinct (push c y l)

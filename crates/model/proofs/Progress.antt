@@ -1,37 +1,30 @@
 -- The next hop of a pair, found by counts and by a search forward: a pair's hops are taken in the order made, so that the number taken so
 -- far says which is next. Assumes nothing.
 use mathlib.Core.Path.{_≡_, refl, sym, ap, subst, _∙_}
-use mathlib.Core.Logic.{_⊎_, ⊎-elim, by-cases}
-use mathlib.Core.Bool.{Bool, true, false, _&&_, _||_, and-false}
+use mathlib.Core.Logic.{⊎-elim, by-cases}
+use mathlib.Core.Bool.{Bool, true, false, _&&_, and-false}
 use mathlib.Core.List.{List, [], _∷_, _++_}
 use Prim.Native.Nat.{ℕ, zero, suc, _+_, _≤_, _<_}
 use native.Mathlib.Nat.{le-of-suc-le-suc, zero-lt-suc}
 use native.Mathlib.Decide.{ℕ-discrete, decLt}
 use native.Mathlib.Omega.{arith}
-use borrow.Author.Tests.{eq-eqb, ne-eqb, ltb-true, leb-false}
 use lib.ListN.{length, take}
 use lib.Seq.{length-take-le, take-all, getD-take}
-use lib.Dec.{eqb, ltb, leb}
+use lib.Dec.{eqb}
 use Rattle.sets.proofs.Bools.{either, clash, and-left, and-right, and-both, not-true-false}
 use Rattle.model.specs.declared.Hop.{Hop}
-use Rattle.model.specs.declared.Message.{Message}
-use Rattle.model.specs.Network.{Plan, routeSizeOf, Network, network, fresh, hopAt, hopsOf, isOut, isHeld, isTaken, withState}
-use Rattle.model.specs.Network.{setState, isPair, sumOf, bit, countHops, pairCount, takenOf, pairTaken, newHop, made}
-use Rattle.model.specs.Rules.{Outcome, outcome, answerOf, leftOf, refuse, refused, routeTotal, send, push, rising, forward, takeHop}
-use Rattle.model.specs.Rules.{lowestUntaken, isHeldAt, nextHeld, settle, hold, arrive}
-use Rattle.model.specs.Calls.{Call, Send, Arrive, call, answered, Run, ran, recorded, step, runFrom, run, networkOf, historyOf}
-use Rattle.model.specs.Demand3.{Planned, In, here, there}
+use Rattle.model.specs.Network.{Plan, freshOn, ledgerOf, hopAt, isOut, isHeld, isTaken, withState, setState, isPair, sumOf, bit}
+use Rattle.model.specs.Network.{countHops, pairCount, takenOf, pairTaken, newHop, made}
+use Rattle.model.specs.Rules.{Outcome, outcome, answerOf, leftOf, forward, lowestUntaken, isHeldAt, nextHeld}
+use Rattle.model.specs.Calls.{Call, call, answered, Run, ran, recorded, step, runFrom, run, networkOf, historyOf}
+use Rattle.model.specs.Demand3.{In, here, there}
 use Rattle.model.proofs.Hops.{length-snoc, hop-old, hop-new, length-state, state-same, state-other, sum-forward, count-state}
 use Rattle.model.proofs.Hops.{count-forward}
-use Rattle.model.proofs.Sequences.{Numbered, pair-state, pair-ends, numbered-pair, out-untaken, held-untaken, place-none, Untaken}
-use Rattle.model.proofs.Sequences.{Next, next-held, next-found}
-use Rattle.model.proofs.Subtrees.{rising-in}
-use Rattle.model.proofs.Idle.{Idle, settled-idle, next-along}
-use Rattle.model.proofs.Replies.{refuse-either}
-use Rattle.model.proofs.Sound.{Forest, sound-held}
-use Rattle.model.proofs.Planning.{planned-forest}
-use Rattle.model.proofs.Runs.{Valid, KeptRun, take-valid, kept-step, kept-run}
-use Rattle.model.proofs.Theorems.{own-table, settled}
+use Rattle.model.proofs.Sequences.{Numbered, pair-state, pair-ends, numbered-pair, out-untaken, held-untaken, place-none}
+use Rattle.model.proofs.Sequences.{Untaken, Next, next-held, next-found}
+use Rattle.model.proofs.Idle.{Idle, next-along}
+use Rattle.model.proofs.Rest.{TakenFirst}
+use Rattle.model.proofs.Replies.{call-ledger}
 
 -- a test of equal hops
 along : (t : Hop → Bool) {b : Bool} {g h : Hop} → g ≡ h → t g ≡ b → t h ≡ b
@@ -87,65 +80,6 @@ pub forward-apart : (a b v m : ℕ) (cs : List ℕ) (hs : List Hop) → Apart a 
     → (i : ℕ) → length hs ≤ i → i < length (forward v m cs hs) → isPair a b (hopAt (forward v m cs hs) i) ≡ false
 unfolding Apart
 forward-apart a b v m cs hs apart = forward-new (λ h. isPair a b h ≡ false) v m cs hs (λ c p l. new-pair a b v c m l (apart c p))
-
--- ---- a pair's hops are taken in the order made
-
-unfoldable pub TakenFirst : List Hop → Type 0
-TakenFirst hs = (s r i j : ℕ) → i < j → j < length hs → isPair s r (hopAt hs i) ≡ true → isPair s r (hopAt hs j) ≡ true
-    → isTaken (hopAt hs j) ≡ true → isTaken (hopAt hs i) ≡ true
-
-pub taken-first-made : (s r m : ℕ) (hs : List Hop) → TakenFirst hs → TakenFirst (made s r m hs)
-unfolding TakenFirst made newHop isTaken
-taken-first-made s r m hs first a b i j l within p q t =
-    let x : Hop = newHop s r m hs in
-    by-cases (decLt j (length hs))
-    (λ c. let old-i = hop-old hs x i (let z : i < length hs = omega arith in z) in
-    let old-j = hop-old hs x j c in
-    along isTaken (sym old-i) (first a b i j l c (along (isPair a b) old-i p) (along (isPair a b) old-j q) (along isTaken old-j t)))
-    (λ c. let e : j ≡ length hs = omega (arith, length-snoc hs x) in
-    absurd (clash (along isTaken (ap (hopAt (hs ++ x ∷ [])) e ∙ hop-new hs x) t) refl))
-
-pub taken-first-forward : (v m : ℕ) (cs : List ℕ) (hs : List Hop) → TakenFirst hs → TakenFirst (forward v m cs hs)
-unfolding forward
-taken-first-forward v m [] hs first = first
-taken-first-forward v m (c ∷ cs) hs first = taken-first-forward v m cs (made v c m hs) (taken-first-made v c m hs first)
-
--- hop j has another state: it stays taken if it was, and is taken only after the pair's older hops
-taken-first-state : (j k : ℕ) (hs : List Hop) → j < length hs → TakenFirst hs
-    → (isTaken (hopAt hs j) ≡ true → isTaken (withState k (hopAt hs j)) ≡ true)
-    → (isTaken (withState k (hopAt hs j)) ≡ true → (s r i : ℕ) → i < j → isPair s r (hopAt hs i) ≡ true
-    → isPair s r (hopAt hs j) ≡ true
-    → isTaken (hopAt hs i) ≡ true) → TakenFirst (setState j k hs)
-unfolding TakenFirst
-taken-first-state j k hs b first keeps older s r i n l within p q t =
-    let same : (x : ℕ) → x ≡ j → hopAt (setState j k hs) x ≡ withState k (hopAt hs j) =
-    λ x e. ap (hopAt (setState j k hs)) e ∙ state-same j k hs b in
-    let p′ = sym (pair-at s r j k hs i) ∙ p in
-    let q′ = sym (pair-at s r j k hs n) ∙ q in
-    by-cases (ℕ-discrete n j)
-    (λ e. along isTaken (sym (state-other j k hs i (λ d. absurd (omega arith))))
-    (older (along isTaken (same n e) t) s r i (omega arith) p′ (subst (λ (x : ℕ). isPair s r (hopAt hs x) ≡ true) e q′)))
-    (λ d. let was = first s r i n l (omega (arith, length-state j k hs)) p′ q′ (along isTaken (state-other j k hs n d) t) in
-    by-cases (ℕ-discrete i j)
-    (λ e. along isTaken (sym (same i e)) (keeps (subst (λ (x : ℕ). isTaken (hopAt hs x) ≡ true) e was)))
-    (λ o. along isTaken (sym (state-other j k hs i o)) was))
-
-pub taken-first-hold : (j : ℕ) (hs : List Hop) → j < length hs → isOut (hopAt hs j) ≡ true → TakenFirst hs
-    → TakenFirst (setState j 1 hs)
-unfolding isTaken withState
-taken-first-hold j hs b out first = taken-first-state j 1 hs b first
-    (λ t. absurd (clash t (out-untaken (hopAt hs j) out)))
-    (λ t. absurd (clash t refl))
-
-pub taken-first-take : (s r v m : ℕ) (cs : List ℕ) (hs : List Hop) (j : ℕ) → Next s r hs j → TakenFirst hs
-    → TakenFirst (forward v m cs (setState j 2 hs))
-unfolding isTaken withState
-taken-first-take s r v m cs hs j N first = taken-first-forward v m cs (setState j 2 hs)
-    (taken-first-state j 2 hs (N .within) first (λ t. refl) (λ t a b i l p q.
-    let own = pair-ends s r (hopAt hs j) (N .pair) in
-    let named = pair-ends a b (hopAt hs j) q in
-    N .older i l (subst (λ (x : ℕ). isPair s x (hopAt hs i) ≡ true) (sym (named .1) ∙ own .1)
-    (subst (λ (x : ℕ). isPair x b (hopAt hs i) ≡ true) (sym (named .0) ∙ own .0) p))))
 
 -- ---- the rule's place
 
@@ -451,123 +385,43 @@ module _ (s r v m : ℕ) (cs : List ℕ) (hs : List Hop) (j : ℕ) (N : Next s r
       let w = count-fewer (isPair s r) isTaken after l in
       (w .0, by-cases (decLt j (w .0)) (λ d. d) (λ d. absurd (clash (after-taken (w .0) (omega arith) (w .2)) (w .3))), w .1, w .2)
 
--- ---- every list of calls
-
--- the hops that an outcome leaves are taken in the order made
-unfoldable LeavesFirst : Outcome → Type 0
-LeavesFirst o = TakenFirst (hopsOf (leftOf o))
-
-first-refused : (b : Bool) (number : ℕ) (W : Network) (o : Outcome) → TakenFirst (hopsOf W) → (b ≡ false → LeavesFirst o)
-    → LeavesFirst (refuse b (refused number W) o)
-unfolding LeavesFirst refused leftOf
-first-refused b number W o first rest = refuse-either LeavesFirst b (refused number W) o (λ t. first) rest
-
-first-send : (P : Plan) (s g w : ℕ) (W : Network) → TakenFirst (hopsOf W) → LeavesFirst (send P s g w W)
-unfolding send LeavesFirst leftOf hopsOf
-first-send P s g w (network ms hs ls) first =
-    let W = network ms hs ls in
-    first-refused (leb (P .units) s) 12 W _ first (λ a. first-refused (leb (P .count) g) 13 W _ first (λ b.
-    first-refused (leb 200 (length ms)) 14 W _ first (λ c. first-refused (ltb 2000 (routeTotal P ms + routeSizeOf P g)) 15 W _ first (λ d.
-    taken-first-made s _ (suc (length ms)) hs first))))
-
-module _ (P : Plan) (forest : Forest P) where
-  first-settle : (k s r n : ℕ) (ms : List Message) (hs : List Hop) (ls : List (List ℕ))
-      → Valid P forest (network ms hs ls) → TakenFirst hs
-      → LeavesFirst (settle k P s r n (network ms hs ls))
-  unfolding settle LeavesFirst leftOf hopsOf takeHop
-  first-settle zero s r n ms hs ls ok first = first
-  first-settle (suc k) s r n ms hs ls ok first = ⊎-elim
-      (λ (t : ltb (nextHeld s r hs) (length hs) ≡ true).
-      let N = next-found s r hs (own-table P forest ms hs ls ok .numbers) (ltb-true (nextHeld s r hs) (length hs) t) in
-      simp t (first-settle k s r (suc n) ms _ _ (take-valid P forest ms hs ls s r (nextHeld s r hs) ok N)
-      (taken-first-take s r _ _ _ hs (nextHeld s r hs) N first)))
-      (λ (t : ltb (nextHeld s r hs) (length hs) ≡ false). simp t first)
-      (either (ltb (nextHeld s r hs) (length hs)))
-
-  first-arrive : (j : ℕ) (W : Network) → Valid P forest W → TakenFirst (hopsOf W) → LeavesFirst (arrive P j W)
-  unfolding arrive LeavesFirst leftOf hopsOf hold Valid
-  first-arrive j (network ms hs ls) ok first =
-      first-refused (leb (length hs) j) 16 (network ms hs ls) _ first (λ made.
-      let b = leb-false (length hs) j made in ⊎-elim
-      (λ (out : isOut (hopAt hs j) ≡ true). simp out (first-settle (length hs) _ _ 0 ms (setState j 1 hs) ls
-      (λ T after e. sound-held P forest T ms hs ls (ok T after e) j b (out-untaken (hopAt hs j) out)) (taken-first-hold j hs b out first)))
-      (λ (out : isOut (hopAt hs j) ≡ false). simp out first)
-      (either (isOut (hopAt hs j))))
-
-  first-call : (c : Call) (W : Network) → Valid P forest W → TakenFirst (hopsOf W) → LeavesFirst (call P c W)
-  unfolding call
-  first-call (Send s g w hops) W ok first = first-refused (ltb hops 2000) 1 W _ first (λ b. first-send P s g w W first)
-  first-call (Arrive j hops book) W ok first =
-      first-refused (ltb hops 2000 || ltb book 6400) 1 W _ first (λ b. first-arrive j W ok first)
-
 -- ---- calls one by one
 
-pub step-network : (P : Plan) (c : Call) (r : Run) → networkOf (step P c r) ≡ leftOf (call P c (networkOf r))
+pub step-network : (c : Call) (r : Run) → networkOf (step c r) ≡ leftOf (call c (networkOf r))
 unfolding step networkOf recorded leftOf
-step-network P c (ran W past) = arms (call P c W)
+step-network c (ran W past) = arms (call c W)
   where
     arms : (o : Outcome) → networkOf (recorded c past o) ≡ leftOf o
     arms (outcome a W′) = refl
 
-pub step-history : (P : Plan) (c : Call) (r : Run)
-    → historyOf (step P c r) ≡ historyOf r ++ answered c (answerOf (call P c (networkOf r))) ∷ []
+-- the bench has the one forest that the list starts with
+pub run-ledger : (P : Plan) (cs : List Call) → ledgerOf (networkOf (run P cs)) ≡ record { earlier = []; inUse = P }
+unfolding run runFrom freshOn networkOf ledgerOf
+run-ledger P cs = from cs (ran (freshOn P) [])
+  where
+    from : (cs : List Call) (r : Run) → ledgerOf (networkOf (runFrom cs r)) ≡ ledgerOf (networkOf r)
+    from [] r = refl
+    from (c ∷ cs) r = from cs (step c r) ∙ ap ledgerOf (step-network c r) ∙ call-ledger c (networkOf r)
+
+pub step-history : (c : Call) (r : Run) → historyOf (step c r) ≡ historyOf r ++ answered c (answerOf (call c (networkOf r))) ∷ []
 unfolding step networkOf historyOf recorded answerOf
-step-history P c (ran W past) = arms (call P c W)
+step-history c (ran W past) = arms (call c W)
   where
     arms : (o : Outcome) → historyOf (recorded c past o) ≡ past ++ answered c (answerOf o) ∷ []
     arms (outcome a W′) = refl
 
-pub run-from-snoc : (P : Plan) (cs : List Call) (c : Call) (r : Run) → runFrom P (cs ++ c ∷ []) r ≡ step P c (runFrom P cs r)
+pub run-from-snoc : (cs : List Call) (c : Call) (r : Run) → runFrom (cs ++ c ∷ []) r ≡ step c (runFrom cs r)
 unfolding runFrom
-run-from-snoc P [] c r = refl
-run-from-snoc P (d ∷ cs) c r = run-from-snoc P cs c (step P d r)
+run-from-snoc [] c r = refl
+run-from-snoc (d ∷ cs) c r = run-from-snoc cs c (step d r)
 
-pub run-snoc : (P : Plan) (cs : List Call) (c : Call) → run P (cs ++ c ∷ []) ≡ step P c (run P cs)
+pub run-snoc : (P : Plan) (cs : List Call) (c : Call) → run P (cs ++ c ∷ []) ≡ step c (run P cs)
 unfolding run
-run-snoc P cs c = run-from-snoc P cs c (ran fresh [])
+run-snoc P cs c = run-from-snoc cs c (ran (freshOn P) [])
 
-pub network-snoc : (P : Plan) (cs : List Call) (c : Call) → networkOf (run P (cs ++ c ∷ []))
-    ≡ leftOf (call P c (networkOf (run P cs)))
-network-snoc P cs c = ap networkOf (run-snoc P cs c) ∙ step-network P c (run P cs)
+pub network-snoc : (P : Plan) (cs : List Call) (c : Call) → networkOf (run P (cs ++ c ∷ [])) ≡ leftOf (call c (networkOf (run P cs)))
+network-snoc P cs c = ap networkOf (run-snoc P cs c) ∙ step-network c (run P cs)
 
 pub history-snoc : (P : Plan) (cs : List Call) (c : Call)
-    → historyOf (run P (cs ++ c ∷ [])) ≡ historyOf (run P cs) ++ answered c (answerOf (call P c (networkOf (run P cs)))) ∷ []
-history-snoc P cs c = ap historyOf (run-snoc P cs c) ∙ step-history P c (run P cs)
-
--- ---- after every list of calls hops are numbered, no pair has a copy left to be taken, and a pair's hops are taken in the order made
-
-module _ (P : Plan) (forest : Forest P) where
-  first-step : (c : Call) (r : Run) → KeptRun P forest r → TakenFirst (hopsOf (networkOf r))
-      → TakenFirst (hopsOf (networkOf (step P c r)))
-  unfolding KeptRun networkOf LeavesFirst
-  first-step c (ran W past) K first = subst (λ (X : Network). TakenFirst (hopsOf X)) (sym (step-network P c (ran W past)))
-      (first-call P forest c W (K .valid) first)
-
-  first-from : (cs : List Call) (r : Run) → KeptRun P forest r → TakenFirst (hopsOf (networkOf r))
-      → TakenFirst (hopsOf (networkOf (runFrom P cs r)))
-  unfolding runFrom
-  first-from [] r K first = first
-  first-from (c ∷ cs) r K first = first-from cs (step P c r) (kept-step P forest c r K) (first-step c r K first)
-
-  numbered-run : (r : Run) → KeptRun P forest r → Numbered (hopsOf (networkOf r))
-  unfolding KeptRun networkOf hopsOf
-  numbered-run (ran (network ms hs ls) past) K = own-table P forest ms hs ls (K .valid) .numbers
-
-  valid-run : (r : Run) → KeptRun P forest r → Valid P forest (networkOf r)
-  unfolding KeptRun networkOf
-  valid-run (ran W past) K = K .valid
-
-pub run-valid : (P : Plan) (planned : Planned P) (cs : List Call) → Valid P (planned-forest P planned) (networkOf (run P cs))
-run-valid P planned cs = valid-run P (planned-forest P planned) (run P cs) (kept-run P (planned-forest P planned) cs)
-
-pub run-numbered : (P : Plan) → Planned P → (cs : List Call) → Numbered (hopsOf (networkOf (run P cs)))
-run-numbered P planned cs = numbered-run P (planned-forest P planned) (run P cs) (kept-run P (planned-forest P planned) cs)
-
-pub run-idle : (P : Plan) → Planned P → (cs : List Call) (s r : ℕ) → Idle (hopsOf (networkOf (run P cs))) s r
-run-idle P planned cs s r = settled-idle (hopsOf (networkOf (run P cs))) s r (run-numbered P planned cs) (settled P planned cs s r)
-
-pub run-taken-first : (P : Plan) → Planned P → (cs : List Call) → TakenFirst (hopsOf (networkOf (run P cs)))
-unfolding run runFrom TakenFirst fresh networkOf hopsOf
-run-taken-first P planned cs =
-    let forest = planned-forest P planned in
-    first-from P forest cs (ran fresh []) (kept-run P forest []) (λ s r i j l b p q t. absurd (omega (arith, b)))
+    → historyOf (run P (cs ++ c ∷ [])) ≡ historyOf (run P cs) ++ answered c (answerOf (call c (networkOf (run P cs)))) ∷ []
+history-snoc P cs c = ap historyOf (run-snoc P cs c) ∙ step-history c (run P cs)

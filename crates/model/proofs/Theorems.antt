@@ -1,69 +1,120 @@
 -- Demand 3 and what goes with it, for every plan whose forest comes from an unrefused `build` or `check`, and every list of calls.
 -- docs/PROOFS.md leads here. Assumes nothing.
-use mathlib.Core.Path.{_≡_, sym}
-use mathlib.Core.Bool.{true}
-use mathlib.Core.List.{List, [], append-nil, map}
-use Prim.Native.Nat.{ℕ}
+use mathlib.Core.Path.{_≡_, ap, subst, _∙_}
+use mathlib.Core.Bool.{true, false}
+use mathlib.Core.List.{List, map}
+use Prim.Native.Nat.{ℕ, _<_}
 use lib.ListN.{length}
-use Rattle.model.specs.Network.{Plan, Network, network, messagesOf, hopsOf, logOf}
-use Rattle.model.specs.declared.Hop.{Hop}
-use Rattle.model.specs.declared.Message.{Message}
+use Rattle.model.specs.Network.{Plan, planAt, planFor, forestsOf, Network, network, messageAt, hopAt, ledgerOf, planInUse}
+use Rattle.model.specs.Network.{messagesOf, hopsOf, logOf, isTaken, countHops}
 use Rattle.model.specs.Rules.{rising, quiescent}
 use Rattle.model.specs.Calls.{Call, Run, ran, run, networkOf, historyOf}
-use Rattle.model.specs.Demand3.{Planned, sent, Demand3}
+use Rattle.model.specs.Demand3.{Planned, sent, takenTotal, Demand3}
 use Rattle.model.specs.Claims.{Limits, Settled, Reading}
-use Rattle.model.proofs.Planning.{planned-forest}
-use Rattle.model.proofs.Sound.{Forest, Sound}
-use Rattle.model.proofs.Idle.{idle-settled}
-use Rattle.model.proofs.Runs.{Valid, KeptRun, kept-run, run-calls, enumerate-numbers}
+use Rattle.model.proofs.Planning.{planned-forest, no-forest}
+use Rattle.model.proofs.Sequences.{Numbered}
+use Rattle.model.proofs.Idle.{Idle, idle-settled}
+use Rattle.model.proofs.Sound.{Forest}
+use Rattle.model.proofs.Rest.{TakenFirst, sound-first, own-mail, in-flight}
+use Rattle.model.proofs.Readings.{enumerate-numbers}
+use Rattle.model.proofs.Networks.{plan-last, Valid, own-sound}
+use Rattle.model.proofs.Runs.{KeptRun, kept-run, run-calls}
 use Rattle.model.proofs.Demand.{sound-limits, sound-demand}
 
--- the table is the messages sent
-module _ (P : Plan) (forest : Forest P) where
-  pub own-table : (ms : List Message) (hs : List Hop) (ls : List (List ℕ)) → Valid P forest (network ms hs ls)
-      → Sound P forest ms ms hs ls
-  unfolding Valid
-  own-table ms hs ls valid = valid ms [] (sym (append-nil ms))
+-- ---- of a valid network, between two copies of one arrival too
 
-  -- between two copies of one arrival too
-  pub valid-limits : (W : Network) → Valid P forest W → Limits P W
-  valid-limits (network ms hs ls) valid = sound-limits P forest ms ms hs ls (own-table ms hs ls valid)
+pub valid-limits : (W : Network) → Valid W → Limits W
+unfolding Valid
+valid-limits (network L ms hs ls) K = sound-limits L ms hs ls K
 
-  run-demand : (r : Run) → KeptRun P forest r → Demand3 P (λ u. logOf u (networkOf r)) (quiescent (networkOf r)) (historyOf r)
-  unfolding KeptRun networkOf historyOf messagesOf hopsOf
-  run-demand (ran (network ms hs ls) past) kept =
-      sound-demand P forest ms ms hs ls (own-table ms hs ls (kept .valid)) past (kept .sends) (kept .takes)
+pub valid-numbered : (W : Network) → Valid W → Numbered (hopsOf W)
+unfolding Valid hopsOf
+valid-numbered (network L ms hs ls) K = own-sound L ms hs ls K .numbers
 
-  run-numbers : (r : Run) → KeptRun P forest r → map (λ x. x .number) (sent (historyOf r))
-      ≡ rising (length (sent (historyOf r))) 1 (λ n. true)
+-- a pair's hops are taken in the order made
+pub valid-first : (W : Network) → Valid W → TakenFirst (hopsOf W)
+unfolding Valid hopsOf
+valid-first (network L ms hs ls) K = sound-first (forestsOf L) (K .planted) ms (own-sound L ms hs ls K)
+
+-- the forest in use, and the one of the message of hop j
+pub valid-forest : (W : Network) → Valid W → Forest (planInUse W)
+unfolding Valid ledgerOf
+valid-forest (network L ms hs ls) K = subst Forest (plan-last L) (K .planted (length (L .earlier)))
+
+abbrev pub planAtHop : Network → ℕ → Plan
+planAtHop W j = planFor (forestsOf (ledgerOf W)) (messageAt (messagesOf W) (hopAt (hopsOf W) j .message))
+
+-- of an untaken hop they are one, and the message's group is one of its groups
+pub valid-in-use : (W : Network) → Valid W → (j : ℕ) → j < length (hopsOf W) → isTaken (hopAt (hopsOf W) j) ≡ false
+    → planAtHop W j ≡ planInUse W
+unfolding Valid ledgerOf messagesOf hopsOf
+valid-in-use (network L ms hs ls) K j b waits =
+    ap (planAt (forestsOf L)) (in-flight (forestsOf L) (K .planted) ms (own-sound L ms hs ls K) j b waits) ∙ plan-last L
+
+pub valid-group : (W : Network) → Valid W → (j : ℕ) → j < length (hopsOf W) → isTaken (hopAt (hopsOf W) j) ≡ false
+    → messageAt (messagesOf W) (hopAt (hopsOf W) j .message) .group < planInUse W .count
+unfolding Valid ledgerOf messagesOf hopsOf
+valid-group (network L ms hs ls) K j b waits =
+    let sound = own-sound L ms hs ls K in
+    subst (λ (P : Plan). messageAt ms (hopAt hs j .message) .group < P .count) (valid-in-use (network L ms hs ls) K j b waits)
+    (sound .admitted _ (own-mail (forestsOf L) (K .planted) ms sound j b) .group)
+
+-- ---- of a list of calls
+
+module _ (P : Plan) where
+  run-demand : (r : Run) → KeptRun P r → Demand3 P (λ u. logOf u (networkOf r)) (quiescent (networkOf r)) (historyOf r)
+  unfolding KeptRun networkOf historyOf ledgerOf messagesOf hopsOf Valid
+  run-demand (ran (network L ms hs ls) past) kept = sound-demand L ms hs ls (kept .valid) P past (kept .sends) (kept .takes)
+
+  run-numbers : (r : Run) → KeptRun P r → map (λ x. x .number) (sent P (historyOf r)) ≡ rising (length (sent P (historyOf r))) 1
+      (λ n. true)
   unfolding KeptRun historyOf
-  run-numbers (ran W past) kept = rw (kept .sends) (enumerate-numbers 1 (messagesOf W))
+  run-numbers (ran W past) kept = rw (kept .sends) (enumerate-numbers (forestsOf (ledgerOf W)) 1 (messagesOf W))
 
-  run-limits : (r : Run) → KeptRun P forest r → Limits P (networkOf r)
+  kept-valid : (r : Run) → KeptRun P r → Valid (networkOf r)
   unfolding KeptRun networkOf
-  run-limits (ran W past) kept = valid-limits W (kept .valid)
+  kept-valid (ran W past) kept = kept .valid
 
-  run-settled : (r : Run) → KeptRun P forest r → (s t : ℕ) → Settled s t (hopsOf (networkOf r))
-  unfolding KeptRun networkOf hopsOf
-  run-settled (ran (network ms hs ls) past) kept s t =
-      idle-settled hs s t (own-table ms hs ls (kept .valid) .numbers) (kept .idle s t)
+  kept-takes : (r : Run) → KeptRun P r → takenTotal (historyOf r) ≡ countHops isTaken (hopsOf (networkOf r))
+  unfolding KeptRun networkOf historyOf
+  kept-takes (ran W past) kept = kept .takes
+
+  kept-idle : (r : Run) → KeptRun P r → (s t : ℕ) → Idle (hopsOf (networkOf r)) s t
+  unfolding KeptRun networkOf
+  kept-idle (ran W past) kept = kept .idle
 
 module _ (P : Plan) (planned : Planned P) (cs : List Call) where
-  forest : Forest P
-  forest = planned-forest P planned
+  kept : KeptRun P (run P cs)
+  kept = kept-run P (planned-forest P planned) no-forest cs
 
   -- demand 3, whole
   pub demand-3 : Demand3 P (λ u. logOf u (networkOf (run P cs))) (quiescent (networkOf (run P cs))) (historyOf (run P cs))
-  demand-3 = run-demand P forest (run P cs) (kept-run P forest cs)
+  demand-3 = run-demand P (run P cs) kept
 
   -- what is read off the list
-  pub reading : Reading cs (historyOf (run P cs))
-  reading = record { calls = run-calls P cs; numbers = run-numbers P forest (run P cs) (kept-run P forest cs) }
+  pub reading : Reading P cs (historyOf (run P cs))
+  reading = record { calls = run-calls P cs; numbers = run-numbers P (run P cs) kept }
+
+  -- the copies taken are those that the answers count
+  pub run-takes : takenTotal (historyOf (run P cs)) ≡ countHops isTaken (hopsOf (networkOf (run P cs)))
+  run-takes = kept-takes P (run P cs) kept
+
+  pub run-valid : Valid (networkOf (run P cs))
+  run-valid = kept-valid P (run P cs) kept
 
   -- the limits of messages, hops, logs and sequence numbers
-  pub limits : Limits P (networkOf (run P cs))
-  limits = run-limits P forest (run P cs) (kept-run P forest cs)
+  pub limits : Limits (networkOf (run P cs))
+  limits = valid-limits (networkOf (run P cs)) run-valid
+
+  pub run-numbered : Numbered (hopsOf (networkOf (run P cs)))
+  run-numbered = valid-numbered (networkOf (run P cs)) run-valid
+
+  pub run-taken-first : TakenFirst (hopsOf (networkOf (run P cs)))
+  run-taken-first = valid-first (networkOf (run P cs)) run-valid
 
   -- the fuel of `settle` suffices: no pair has a copy left to be taken
+  pub run-idle : (s r : ℕ) → Idle (hopsOf (networkOf (run P cs))) s r
+  run-idle = kept-idle P (run P cs) kept
+
   pub settled : (s r : ℕ) → Settled s r (hopsOf (networkOf (run P cs)))
-  settled = run-settled P forest (run P cs) (kept-run P forest cs)
+  settled s r = idle-settled (hopsOf (networkOf (run P cs))) s r run-numbered (run-idle s r)

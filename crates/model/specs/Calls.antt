@@ -4,7 +4,7 @@ use Prim.Native.Nat.{ℕ}
 use mathlib.Core.Bool.{Bool, _||_}
 use mathlib.Core.List.{List, [], _∷_, _++_}
 use lib.Dec.{ltb, leb}
-use Rattle.model.specs.Network.{Plan, Network, fresh, logOf}
+use Rattle.model.specs.Network.{Plan, Network, freshOn, planInUse, logOf}
 use Rattle.model.specs.Rules.{quiescent, Answer, Outcome, outcome, refuse, refused, send, arrive}
 
 -- a call with how many hop records, and how many log numbers, it is lent
@@ -13,9 +13,9 @@ pub data Call : Type 0 where
   Arrive : (hop hops book : ℕ) → Call
 
 -- a call whose lists are too short answers 1 and changes nothing
-unfoldable pub call : Plan → Call → Network → Outcome
-call P (Send s g w hops) W = refuse (ltb hops 2000) (refused 1 W) (send P s g w W)
-call P (Arrive j hops book) W = refuse (ltb hops 2000 || ltb book 6400) (refused 1 W) (arrive P j W)
+unfoldable pub call : Call → Network → Outcome
+call (Send s g w hops) W = refuse (ltb hops 2000) (refused 1 W) (send s g w W)
+call (Arrive j hops book) W = refuse (ltb hops 2000 || ltb book 6400) (refused 1 W) (arrive j W)
 
 -- ---- lists of calls
 
@@ -31,16 +31,16 @@ unfoldable pub recorded : Call → List Answered → Outcome → Run
 recorded c past (outcome a W) = ran W (past ++ answered c a ∷ [])
 
 -- one call more
-unfoldable pub step : Plan → Call → Run → Run
-step P c (ran W past) = recorded c past (call P c W)
+unfoldable pub step : Call → Run → Run
+step c (ran W past) = recorded c past (call c W)
 
-unfoldable pub runFrom : Plan → List Call → Run → Run
-runFrom P [] r = r
-runFrom P (c ∷ cs) r = runFrom P cs (step P c r)
+unfoldable pub runFrom : List Call → Run → Run
+runFrom [] r = r
+runFrom (c ∷ cs) r = runFrom cs (step c r)
 
--- a list of calls from the fresh bench
+-- a list of calls from the fresh bench on a forest
 unfoldable pub run : Plan → List Call → Run
-run P cs = runFrom P cs (ran fresh [])
+run P cs = runFrom cs (ran (freshOn P) [])
 
 unfoldable pub networkOf : Run → Network
 networkOf (ran W past) = W
@@ -55,8 +55,8 @@ pub data LogAnswer : Type 0 where
   Log : List ℕ → LogAnswer
 
 -- the log of a unit; 17 where there is no such unit
-unfoldable pub log : Plan → (unit book : ℕ) → Network → LogAnswer
-log P u book W = refuse (ltb book 6400) (LogRefused 1) (refuse (leb (P .units) u) (LogRefused 17) (Log (logOf u W)))
+unfoldable pub log : (unit book : ℕ) → Network → LogAnswer
+log u book W = refuse (ltb book 6400) (LogRefused 1) (refuse (leb (planInUse W .units) u) (LogRefused 17) (Log (logOf u W)))
 
 pub data RestAnswer : Type 0 where
   RestRefused : ℕ → RestAnswer

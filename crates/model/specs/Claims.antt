@@ -7,8 +7,8 @@ use mathlib.Core.List.{List, [], map}
 use lib.ListN.{length}
 use Rattle.model.specs.declared.Hop.{Hop}
 use Rattle.model.specs.declared.Message.{Message}
-use Rattle.model.specs.Network.{Plan, routeSizeOf, Network, hopAt, messagesOf, hopsOf, logOf, isOut}
-use Rattle.model.specs.Rules.{Answer, Refused, Sent, Repeat, Held, Taken, routeTotal, rising, lowestUntaken, isHeldAt}
+use Rattle.model.specs.Network.{Plan, routeSizeOf, Network, hopAt, planInUse, messagesOf, hopsOf, logOf, isOut}
+use Rattle.model.specs.Rules.{Answer, Refused, Sent, Repeat, Held, Taken, routed, rising, lowestUntaken, isHeldAt}
 use Rattle.model.specs.Calls.{Call, Answered, answered}
 use Rattle.model.specs.Demand3.{sent}
 
@@ -22,14 +22,14 @@ pub record HopWithin (ms : List Message) (h : Hop) : Type 0 where
   pub message : (1 ≤ h .message) × (h .message ≤ length ms)
   pub state : h .state ≤ 2
 
-pub record Limits (P : Plan) (W : Network) : Type 0 where
+pub record Limits (W : Network) : Type 0 where
   pub messages : length (messagesOf W) ≤ 200
   -- hops made are at most the sum of the route sizes, and that at most 2,000
-  pub hops : length (hopsOf W) ≤ routeTotal P (messagesOf W)
-  pub routes : routeTotal P (messagesOf W) ≤ 2000
+  pub hops : length (hopsOf W) ≤ routed W
+  pub routes : routed W ≤ 2000
   pub log : (u : ℕ) → length (logOf u W) ≤ 200
   -- what is no unit has no log
-  pub units : (u : ℕ) → P .units ≤ u → logOf u W ≡ []
+  pub units : (u : ℕ) → planInUse W .units ≤ u → logOf u W ≡ []
   pub records : (j : ℕ) → j < length (hopsOf W) → HopWithin (messagesOf W) (hopAt (hopsOf W) j)
 
 -- the lowest sequence number from s to r not yet taken is not held
@@ -38,15 +38,15 @@ Settled s r hs = (j : ℕ) → j < length hs → isHeldAt s r (lowestUntaken s r
 
 -- ---- what a call that is lent whole lists answers
 
--- a send is turned away by 12 to 15 alone
-pub data SendAnswer (P : Plan) (s g : ℕ) (ms : List Message) : Answer → Type 0 where
-  no-source : P .units ≤ s → SendAnswer P s g ms (Refused 12)
-  no-group : s < P .units → P .count ≤ g → SendAnswer P s g ms (Refused 13)
-  too-many : s < P .units → g < P .count → 200 ≤ length ms → SendAnswer P s g ms (Refused 14)
-  too-far : s < P .units → g < P .count → length ms < 200 → 2000 < routeTotal P ms + routeSizeOf P g
-      → SendAnswer P s g ms (Refused 15)
-  accepted : s < P .units → g < P .count → length ms < 200 → routeTotal P ms + routeSizeOf P g ≤ 2000
-      → SendAnswer P s g ms (Sent (suc (length ms)))
+-- a send under the plan P, after so many messages whose route sizes add up to `routes`, is turned away by 12 to 15 alone
+pub data SendAnswer (s g : ℕ) (P : Plan) (messages routes : ℕ) : Answer → Type 0 where
+  no-source : P .units ≤ s → SendAnswer s g P messages routes (Refused 12)
+  no-group : s < P .units → P .count ≤ g → SendAnswer s g P messages routes (Refused 13)
+  too-many : s < P .units → g < P .count → 200 ≤ messages → SendAnswer s g P messages routes (Refused 14)
+  too-far : s < P .units → g < P .count → messages < 200 → 2000 < routes + routeSizeOf P g
+      → SendAnswer s g P messages routes (Refused 15)
+  accepted : s < P .units → g < P .count → messages < 200 → routes + routeSizeOf P g ≤ 2000
+      → SendAnswer s g P messages routes (Sent (suc messages))
 
 -- an arrival of a hop that was made is never turned away
 pub data ArriveAnswer (j : ℕ) (hs : List Hop) : Answer → Type 0 where
@@ -69,6 +69,6 @@ unfoldable pub callOf : Answered → Call
 callOf (answered c a) = c
 
 -- the calls are those of the list, each with its answer, and the messages sent are numbered 1, 2, .. in their order
-pub record Reading (cs : List Call) (past : List Answered) : Type 0 where
+pub record Reading (P : Plan) (cs : List Call) (past : List Answered) : Type 0 where
   pub calls : map callOf past ≡ cs
-  pub numbers : map (λ x. x .number) (sent past) ≡ rising (length (sent past)) 1 (λ i. true)
+  pub numbers : map (λ x. x .number) (sent P past) ≡ rising (length (sent P past)) 1 (λ i. true)

@@ -37,28 +37,36 @@ pub data Distinct {A : Type 0} : List A → Type 0 where
 
 -- ---- what is read off the calls and their answers
 
--- a message as it was sent
+-- a message as it was sent, with the members of its group and the size of its route (document 01: its way) as they were then
 pub record SentMessage : Type 0 where
   pub number : ℕ
   pub source : ℕ
   pub group : ℕ
+  pub members : ℕ
+  pub routeSize : ℕ
 
--- a send that is not turned away is a message: numbered as answered, with the call's source and group
-unfoldable pub sentAs : ℕ → ℕ → Answer → List SentMessage
-sentAs s g (Refused k) = []
-sentAs s g (Sent m) = record { number = m; source = s; group = g } ∷ []
-sentAs s g Repeat = []
-sentAs s g Held = []
-sentAs s g (Taken n) = []
+-- a send under the plan P that is not turned away is a message: numbered as answered, with the call's source and group
+unfoldable pub sentAs : Plan → ℕ → ℕ → Answer → List SentMessage
+sentAs P s g (Refused k) = []
+sentAs P s g (Sent m) = record { number = m; source = s; group = g; members = groupOf P g; routeSize = routeSizeOf P g } ∷ []
+sentAs P s g Repeat = []
+sentAs P s g Held = []
+sentAs P s g (Taken n) = []
 
-unfoldable pub sentBy : Answered → List SentMessage
-sentBy (answered (Send s g w hops) a) = sentAs s g a
-sentBy (answered (Arrive j hops book) a) = []
+-- the messages sent by a call under the plan P: one or none
+unfoldable pub sentBy : Plan → Answered → List SentMessage
+sentBy P (answered (Send s g w hops) a) = sentAs P s g a
+sentBy P (answered (Arrive j hops book) a) = []
 
--- the messages sent, in the order of their sends
-unfoldable pub sent : List Answered → List SentMessage
-sent [] = []
-sent (x ∷ past) = sentBy x ++ sent past
+-- the plan after a call: sends and arrivals leave it
+unfoldable pub planAfter : Plan → Answered → Plan
+planAfter P (answered (Send s g w hops) a) = P
+planAfter P (answered (Arrive j hops book) a) = P
+
+-- the messages sent, in the order of their sends; P is the plan at the start
+unfoldable pub sent : Plan → List Answered → List SentMessage
+sent P [] = []
+sent P (x ∷ past) = sentBy P x ++ sent (planAfter P x) past
 
 -- the number carried by a taken answer, 0 for others; the same of a call with its answer
 unfoldable pub carried : Answer → ℕ
@@ -76,8 +84,8 @@ unfoldable pub takenTotal : List Answered → ℕ
 takenTotal past = sumOf carriedBy past
 
 -- the sum of the route sizes (document 01: way sizes) of the messages
-unfoldable pub sentTotal : Plan → List SentMessage → ℕ
-sentTotal P xs = sumOf (λ x. routeSizeOf P (x .group)) xs
+unfoldable pub sentTotal : List SentMessage → ℕ
+sentTotal xs = sumOf (λ x. x .routeSize) xs
 
 -- ---- demand 3
 
@@ -100,21 +108,22 @@ pub record Circle (logs : ℕ → List ℕ) : Type 0 where
   pub chain : Chain logs start end messages
   pub closes : BeforeSomewhere logs end start
 
--- of each unit's log after a list of calls, of whether the bench is then at rest, and of the calls with their answers
+-- of the plan that a list of calls starts with, of each unit's log after the list, of whether the bench is then at rest, and of the calls
+-- with their answers
 pub record Demand3 (P : Plan) (logs : ℕ → List ℕ) (rest : Bool) (past : List Answered) : Type 0 where
   -- the logs have no circle
   pub no-circle : Circle logs → ⊥
   -- in no log do two messages from one source to one group stand against their sent order
-  pub sent-order : (a b : SentMessage) → Before a b (sent past) → a .source ≡ b .source → a .group ≡ b .group
+  pub sent-order : (a b : SentMessage) → Before a b (sent P past) → a .source ≡ b .source → a .group ≡ b .group
       → (u : ℕ) → Before (b .number) (a .number) (logs u) → ⊥
-  -- each log holds only messages sent to groups that hold its unit
+  -- each log holds only messages sent to groups that held its unit when they were sent
   pub addressed : (u m : ℕ) → In m (logs u)
-      → (x : SentMessage) × In x (sent past) × (x .number ≡ m) × (member (groupOf P (x .group)) u ≡ true)
+      → (x : SentMessage) × In x (sent P past) × (x .number ≡ m) × (member (x .members) u ≡ true)
   -- none twice
   pub once : (u : ℕ) → Distinct (logs u)
   -- at rest exactly when the answers of taken and the route sizes of the messages sent make the same sum
-  pub rest-sums : rest ≡ true → takenTotal past ≡ sentTotal P (sent past)
-  pub sums-rest : takenTotal past ≡ sentTotal P (sent past) → rest ≡ true
-  -- and each member's log then holds every message sent to its group
-  pub complete : rest ≡ true → (x : SentMessage) → In x (sent past) → (u : ℕ) → member (groupOf P (x .group)) u ≡ true
+  pub rest-sums : rest ≡ true → takenTotal past ≡ sentTotal (sent P past)
+  pub sums-rest : takenTotal past ≡ sentTotal (sent P past) → rest ≡ true
+  -- and every message then stands in the log of each unit that was a member of its group when it was sent
+  pub complete : rest ≡ true → (x : SentMessage) → In x (sent P past) → (u : ℕ) → member (x .members) u ≡ true
       → In (x .number) (logs u)

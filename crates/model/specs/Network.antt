@@ -1,4 +1,4 @@
--- The state of a bench (document 01, "The bench, message by message"): messages, hops and logs. Definitions only.
+-- The state of a bench (document 01, "The bench, message by message"): forests, messages, hops and logs. Definitions only.
 use Prim.Native.Nat.{ℕ, suc, _+_, _-_}
 use mathlib.Core.Bool.{Bool, true, false, _&&_}
 use mathlib.Core.List.{List, [], _∷_, _++_}
@@ -10,7 +10,7 @@ use Rattle.model.specs.declared.Message.{Message}
 
 -- ---- what a bench is made for
 
--- units, groups (the first `count` places of a table) and the 32 parents of a forest
+-- units, groups (the first `count` places of a table) and the 32 parents of a forest; a bench's forest, below, is all of these
 pub record Plan : Type 0 where
   pub units : ℕ
   pub count : ℕ
@@ -30,19 +30,55 @@ routeOf P g = route (P .parents) (groupOf P g)
 unfoldable pub routeSizeOf : Plan → ℕ → ℕ
 routeSizeOf P g = routeSize (P .parents) (groupOf P g)
 
+-- ---- forests in turn
+
+-- what stands at a place without a forest: no units and no groups
+unfoldable pub noPlan : Plan
+noPlan = record { units = 0; count = 0; groups = []; parents = [] }
+
+-- forest f, from 0 on
+unfoldable pub planAt : List Plan → ℕ → Plan
+planAt Fs f = getD Fs f noPlan
+
+-- of a message its own forest, and what that says: the members of its group, their primary, their route and the route's size
+abbrev pub planFor : List Plan → Message → Plan
+planFor Fs x = planAt Fs (x .forest)
+
+abbrev pub membersFor : List Plan → Message → ℕ
+membersFor Fs x = groupOf (planFor Fs x) (x .group)
+
+abbrev pub primaryFor : List Plan → Message → ℕ
+primaryFor Fs x = primaryOf (planFor Fs x) (x .group)
+
+abbrev pub routeFor : List Plan → Message → ℕ
+routeFor Fs x = routeOf (planFor Fs x) (x .group)
+
+abbrev pub routeSizeFor : List Plan → Message → ℕ
+routeSizeFor Fs x = routeSizeOf (planFor Fs x) (x .group)
+
 -- ---- the state of a bench
 
--- messages in the order sent, hops in the order made, and a log for each of 32 units
-pub data Network : Type 0 where
-  network : (messages : List Message) (hops : List Hop) (logs : List (List ℕ)) → Network
+-- what a bench keeps beside messages, hops and logs: its forests in turn, those in use earlier and the one in use. Document 01 gives a
+-- bench one forest: no call adds to `earlier`
+pub record Ledger : Type 0 where
+  pub earlier : List Plan
+  pub inUse : Plan
 
--- a fresh bench: no messages, no hops, empty logs
-unfoldable pub fresh : Network
-fresh = network [] [] (replicate 32 [])
+-- all of them in turn; the one in use is the last
+unfoldable pub forestsOf : Ledger → List Plan
+forestsOf L = L .earlier ++ L .inUse ∷ []
+
+-- forests, messages in the order sent, hops in the order made, and a log for each of 32 units
+pub data Network : Type 0 where
+  network : Ledger → (messages : List Message) (hops : List Hop) (logs : List (List ℕ)) → Network
+
+-- a fresh bench on a forest: no messages, no hops, empty logs
+unfoldable pub freshOn : Plan → Network
+freshOn P = network (record { earlier = []; inUse = P }) [] [] (replicate 32 [])
 
 -- what a place not yet used holds
 unfoldable pub noMessage : Message
-noMessage = record { source = 0; group = 0; word = 0 }
+noMessage = record { source = 0; group = 0; word = 0; forest = 0 }
 
 unfoldable pub noHop : Hop
 noHop = record { sender = 0; receiver = 0; sequence = 0; message = 0; state = 0 }
@@ -55,15 +91,21 @@ messageAt ms m = getD ms (m - 1) noMessage
 unfoldable pub hopAt : List Hop → ℕ → Hop
 hopAt hs j = getD hs j noHop
 
--- the messages sent, the hops made, and the log of unit u
+-- the forests, the one in use, the messages sent, the hops made, and the log of unit u
+unfoldable pub ledgerOf : Network → Ledger
+ledgerOf (network L ms hs ls) = L
+
+abbrev pub planInUse : Network → Plan
+planInUse W = ledgerOf W .inUse
+
 unfoldable pub messagesOf : Network → List Message
-messagesOf (network ms hs ls) = ms
+messagesOf (network L ms hs ls) = ms
 
 unfoldable pub hopsOf : Network → List Hop
-hopsOf (network ms hs ls) = hs
+hopsOf (network L ms hs ls) = hs
 
 unfoldable pub logOf : ℕ → Network → List ℕ
-logOf u (network ms hs ls) = getD ls u []
+logOf u (network L ms hs ls) = getD ls u []
 
 -- a hop's state
 unfoldable pub isOut : Hop → Bool

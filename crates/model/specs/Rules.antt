@@ -8,8 +8,9 @@ use Rattle.sets.specs.Sets.{member}
 use Rattle.forest.specs.Forest.{parent}
 use Rattle.model.specs.declared.Hop.{Hop}
 use Rattle.model.specs.declared.Message.{Message}
-use Rattle.model.specs.Network.{Plan, groupOf, primaryOf, routeOf, routeSizeOf, Network, network, messageAt, hopAt, hopsOf, isOut}
-use Rattle.model.specs.Network.{isHeld, isTaken, setState, sumOf, isPair, made}
+use Rattle.model.specs.Network.{Plan, primaryOf, routeSizeOf, planFor, membersFor, routeFor, routeSizeFor, forestsOf, Network}
+use Rattle.model.specs.Network.{network, messageAt, hopAt, ledgerOf, messagesOf, hopsOf, isOut, isHeld, isTaken, setState, sumOf}
+use Rattle.model.specs.Network.{isPair, made}
 
 -- ---- answers
 
@@ -44,20 +45,25 @@ leftOf (outcome a W) = W
 
 -- ---- send
 
--- the sum of the route sizes of messages
-unfoldable pub routeTotal : Plan → List Message → ℕ
-routeTotal P ms = sumOf (λ x. routeSizeOf P (x .group)) ms
+-- the sum of the route sizes (document 01: way sizes) of messages, each by its own forest; and of all messages sent
+unfoldable pub routeTotal : List Plan → List Message → ℕ
+routeTotal Fs ms = sumOf (routeSizeFor Fs) ms
 
--- a send is recorded, and a hop to the primary made, in state out; logs stay
-unfoldable pub send : Plan → (source group word : ℕ) → Network → Outcome
-send P s g w (network ms hs ls) =
-    let W = network ms hs ls in
+abbrev pub routed : Network → ℕ
+routed W = routeTotal (forestsOf (ledgerOf W)) (messagesOf W)
+
+-- a send is recorded under the forest in use, and a hop to the primary made, in state out; logs stay
+unfoldable pub send : (source group word : ℕ) → Network → Outcome
+send s g w (network L ms hs ls) =
+    let W = network L ms hs ls in
+    let P = L .inUse in
     let m = suc (length ms) in
+    let x : Message = record { source = s; group = g; word = w; forest = length (L .earlier) } in
     refuse (leb (P .units) s) (refused 12 W)
     (refuse (leb (P .count) g) (refused 13 W)
     (refuse (leb 200 (length ms)) (refused 14 W)
-    (refuse (ltb 2000 (routeTotal P ms + routeSizeOf P g)) (refused 15 W)
-    (outcome (Sent m) (network (ms ++ record { source = s; group = g; word = w } ∷ []) (made s (primaryOf P g) m hs) ls)))))
+    (refuse (ltb 2000 (routeTotal (forestsOf L) ms + routeSizeOf P g)) (refused 15 W)
+    (outcome (Sent m) (network L (ms ++ x ∷ []) (made s (primaryOf P g) m hs) ls)))))
 
 -- ---- taking one copy
 
@@ -86,14 +92,15 @@ logged true u m ls = set ls u (getD ls u [] ++ m ∷ [])
 logged false u m ls = ls
 
 -- hop j is taken: its receiver logs the message if it is a member; then a hop is made to each of the receiver's children on the group's
--- route
-unfoldable pub takeHop : Plan → ℕ → Network → Network
-takeHop P j (network ms hs ls) =
+-- route. Members, children and route are those of the message's own forest
+unfoldable pub takeHop : ℕ → Network → Network
+takeHop j (network L ms hs ls) =
     let h = hopAt hs j in
-    let g = messageAt ms (h .message) .group in
-    network ms
-    (forward (h .receiver) (h .message) (childrenOn (P .parents) (routeOf P g) (h .receiver)) (setState j 2 hs))
-    (logged (member (groupOf P g) (h .receiver)) (h .receiver) (h .message) ls)
+    let Fs = forestsOf L in
+    let x = messageAt ms (h .message) in
+    network L ms
+    (forward (h .receiver) (h .message) (childrenOn (planFor Fs x .parents) (routeFor Fs x) (h .receiver)) (setState j 2 hs))
+    (logged (member (membersFor Fs x) (h .receiver)) (h .receiver) (h .message) ls)
 
 -- ---- arrive
 
@@ -126,24 +133,24 @@ tally (suc n) = Taken (suc n)
 
 -- takes the hop from s to r with the lowest number that is not taken, while it is held. n were taken before, and at most k are taken here:
 -- as many as there are hops are enough (theorem `settled`)
-unfoldable pub settle : ℕ → Plan → ℕ → ℕ → ℕ → Network → Outcome
-settle zero P s r n W = outcome (tally n) W
-settle (suc k) P s r n (network ms hs ls) =
-    let W = network ms hs ls in
+unfoldable pub settle : ℕ → ℕ → ℕ → ℕ → Network → Outcome
+settle zero s r n W = outcome (tally n) W
+settle (suc k) s r n (network L ms hs ls) =
+    let W = network L ms hs ls in
     let j = nextHeld s r hs in
-    let more = settle k P s r (suc n) (takeHop P j W) in
+    let more = settle k s r (suc n) (takeHop j W) in
     cond (ltb j (length hs)) more (outcome (tally n) W)
 
 -- hop j becomes held
 unfoldable pub hold : ℕ → Network → Network
-hold j (network ms hs ls) = network ms (setState j 1 hs) ls
+hold j (network L ms hs ls) = network L ms (setState j 1 hs) ls
 
 -- an arrival of a held or a taken hop is a repeat; any other is held, and then its pair is settled
-unfoldable pub arrive : Plan → ℕ → Network → Outcome
-arrive P j (network ms hs ls) =
-    let W = network ms hs ls in
+unfoldable pub arrive : ℕ → Network → Outcome
+arrive j (network L ms hs ls) =
+    let W = network L ms hs ls in
     let h = hopAt hs j in
-    let settled = settle (length hs) P (h .sender) (h .receiver) 0 (hold j W) in
+    let settled = settle (length hs) (h .sender) (h .receiver) 0 (hold j W) in
     refuse (leb (length hs) j) (refused 16 W) (cond (isOut h) settled (outcome Repeat W))
 
 -- ---- rest

@@ -10,9 +10,10 @@ pub struct Hop {
     pub state: u8,
 }
 
-// A message as it was sent.
+// A message as it was sent. Document 01 has no `forest`: it is the place, from 0, of the one then in use among the bench's forests.
 pub struct Message {
     pub source: u8,
     pub group: u8,
     pub word: u16,
+    pub forest: u16,
 }

@@ -15,16 +15,13 @@ use Rattle.sets.proofs.Bools.{clash, and-both, and-right}
 use Rattle.text.specs.Writing.{Written}
 use Rattle.text.proofs.Written.{written-none, written-append}
 use Rattle.model.specs.declared.Hop.{Hop}
-use Rattle.model.specs.Network.{Plan, hopsOf, isTaken, countHops}
+use Rattle.model.specs.Network.{Plan, hopsOf, isTaken}
 use Rattle.model.specs.Rules.{Answer}
-use Rattle.model.specs.Calls.{Call, Send, Arrive, Answered, answered, Run, ran, run, networkOf, historyOf}
+use Rattle.model.specs.Calls.{Call, Send, Arrive, Answered, answered, run, networkOf}
 use Rattle.model.specs.Demand3.{Planned, carried, carriedBy, takenTotal}
 use Rattle.model.specs.Claims.{callOf}
 use Rattle.model.proofs.Hops.{sum-snoc, count-length}
-use Rattle.model.proofs.Sound.{Forest}
-use Rattle.model.proofs.Planning.{planned-forest}
-use Rattle.model.proofs.Runs.{KeptRun, kept-run}
-use Rattle.model.proofs.Theorems.{limits}
+use Rattle.model.proofs.Theorems.{limits, run-takes}
 use Rattle.bench_promises.specs.declared.replies.SendReply.{SendReply}
 use Rattle.bench_promises.specs.declared.replies.SendReply.the-variants.{Sent as SentNumber, ListTooShort as SendTooShort, NoSuchUnit}
 use Rattle.bench_promises.specs.declared.replies.SendReply.the-variants.{NoSuchGroup, TooManyMessages, RoutesTooLong}
@@ -136,20 +133,14 @@ pub record EventsLeft (P : Plan) (past : List Answered) (es : List FileEvent) (p
 
 -- ---- on a plan
 
-run-taken : (P : Plan) (forest : Forest P) (r : Run) → KeptRun P forest r → takenTotal (historyOf r) ≡ countHops isTaken
-    (hopsOf (networkOf r))
-unfolding KeptRun historyOf networkOf
-run-taken P forest (ran W past) kept = kept .takes
-
 module _ (P : Plan) (planned : Planned P) where
   -- the copies taken are hops made
   taken-few : {past : List Answered} {b : Bench} {hops : List Hop} {book : List ℕ} → Called P past b hops book
       → takenTotal past ≤ 2000
   taken-few {past} C =
       let R = called-reached P planned C in
-      let forest = planned-forest P planned in
       let L = limits P planned (R .calls) in
-      let counted = run-taken P forest (run P (R .calls)) (kept-run P forest (R .calls)) in
+      let counted = run-takes P planned (R .calls) in
       omega (arith, ap takenTotal (R .history), counted, count-length isTaken (hopsOf (networkOf (run P (R .calls)))), L .hops, L .routes)
 
   -- the calls of a chain that are lent its hops and its book with nothing behind them

@@ -9,19 +9,20 @@ use lib.Seq.{take-all}
 use Rattle.text.specs.Writing.{Written}
 use Rattle.text.proofs.Written.{written-append}
 use Rattle.model.specs.declared.Hop.{Hop}
-use Rattle.model.specs.Network.{Plan, Network, fresh, hopsOf, logOf, sumOf}
+use Rattle.model.specs.Network.{Plan, Ledger, Network, freshOn, hopsOf, logOf, sumOf}
 use Rattle.model.specs.Rules.{quiescent}
 use Rattle.model.specs.Calls.{Call, Answered, run, runFrom, networkOf, historyOf}
 use Rattle.model.specs.Demand3.{Planned, takenTotal}
 use Rattle.model.specs.Claims.{callOf}
 use Rattle.model.proofs.Replies.{rest-answers}
 use Rattle.model.proofs.Theorems.{limits}
+use Rattle.model.proofs.Progress.{run-ledger}
 use Rattle.bench_store.specs.Values.{plus}
 use Rattle.forest_tables.specs.Computed.{unitCount}
 use Rattle.forest_tables.proofs.Columns.{units-in}
 use Rattle.bench_promises.specs.declared.replies.RestReply.{RestReply}
 use Rattle.bench_promises.specs.Replies.{restAnswer}
-use Rattle.bench_promises.specs.State.{Bench, hopRecords, logBook, benchOf, totalsOf}
+use Rattle.bench_promises.specs.State.{Bench, hopRecords, logBook, planTables, benchOf, totalsOf}
 use Rattle.bench_promises.specs.Promises.{after, RestPromise, LogPromise}
 use Rattle.bench_promises.specs.Chains.{Called, begun}
 use Rattle.bench_promises.proofs.Padding.{plus-small}
@@ -61,14 +62,14 @@ first-line groups few = plus-small (groups % 65536) 4 (omega (arith, few)) ∙ o
 
 module _ (P : Plan) (planned : Planned P) {past : List Answered} {b : Bench} {hops : List Hop} {book : List ℕ}
     (C : Called P past b hops book) (cs : List Call) (e : map callOf past ≡ cs) where
-  end-bench : b ≡ benchOf P (after P cs)
-  end-bench = reached P planned C cs e .bench ∙ ap (λ (x : List Call). benchOf P (after P x)) (same-calls P planned C cs e)
+  end-bench : b ≡ benchOf (after P cs)
+  end-bench = reached P planned C cs e .bench ∙ ap (λ (x : List Call). benchOf (after P x)) (same-calls P planned C cs e)
 
   end-logs : HandsBack b book (λ u. logOf u (after P cs))
   unfolding after
   end-logs u part promise =
       list-log P planned C cs e u [] part (subst (λ (l : List ℕ). LogPromise b u l part) (sym (append-nil book)) promise)
-      ∙ handed-log P u 6400 (networkOf (run P cs)) (limits P planned cs) (omega arith)
+      ∙ handed-log u 6400 (networkOf (run P cs)) (limits P planned cs) (omega arith)
 
   end-rest : (r : RestReply) → RestPromise b hops r → saysRest (restAnswer r) ≡ quiescent (after P cs)
   unfolding saysRest after
@@ -84,12 +85,13 @@ module _ (P : Plan) (planned : Planned P) (few : P .units ≤ 32) {p : Progress}
     {r : RestReply} {t : Totals} where
   end-lines : {past : List Answered} → Called P past b hops book → (cs : List Call) → map callOf past ≡ cs → RestPromise b hops r
       → Finished p b r book out t left → Written (ended (stateLines (P .units) (after P cs))) (p .at) out (t .bytes) left
-  unfolding benchOf totalsOf
+  unfolding benchOf totalsOf after
   end-lines C cs e rests F =
       let W = after P cs in
       let bench = end-bench P planned C cs e in
       let units : unitCount (b .tables) ≡ P .units =
-      ap (λ (x : Bench). unitCount (x .tables)) bench ∙ units-in (P .units) (P .count) (P .groups) (P .parents) in
+      ap (λ (x : Bench). unitCount (x .tables)) bench ∙ ap (λ (L : Ledger). unitCount (planTables (L .inUse))) (run-ledger P cs)
+      ∙ units-in (P .units) (P .count) (P .groups) (P .parents) in
       let made : b .totals .made ≡ length (hopsOf W) = ap (λ (x : Bench). x .totals .made) bench in
       let rest = end-rest P planned C cs e r rests in
       coe 0 1 (i. Written (ended (logLines (units i) (λ u. logOf u W) ++ hopsLine (made i) ∷ restLine (rest i) ∷ [])) (p .at) out
@@ -144,9 +146,10 @@ bench-run c es {book = book} {out} {hops} {t} {left = left} accepted places same
     let whole′ : 6400 ≤ length book = omega (arith, size′) in
     let x = B .begins .whole whole whole′ in
     let L = limits P planned [] in
+    let W = freshOn P in
     let C : Called P [] (B .first) (B .hops-fresh) (B .book-fresh) =
-    coe 0 1 (i. Called P [] (B .first) (all-of 2000 hops (B .hops-fresh) (hopRecords fresh) (hop-records-length P fresh L) size (x .1) i)
-    (all-of 6400 book (B .book-fresh) (logBook fresh) (log-book-length P fresh L) size′ (x .2) i)) (begun (B .begins) (x .0)) in
+    coe 0 1 (i. Called P [] (B .first) (all-of 2000 hops (B .hops-fresh) (hopRecords W) (hop-records-length W L) size (x .1) i)
+    (all-of 6400 book (B .book-fresh) (logBook W) (log-book-length W L) size′ (x .2) i)) (begun (B .begins) (x .0)) in
     let E = events-run P planned [] es (B .runs) C same (omega (arith, few)) (omega (arith, line, few, groups)) refl in
     subst (λ (k : ℕ). Shown (RanFrom k P (run P (map callFor es))) 0 out t left) line
     (run-shown P planned units es E (B .rests) (B .finishes))

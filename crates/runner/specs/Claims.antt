@@ -31,7 +31,7 @@ pub record PrintedRun (F : File) (bytes : List ℕ) (sum : ℕ) : Type 0 where
   pub lines : bytes ≡ ended (runLines (4 + length (F .groups)) (answersIn F) (F .units) (λ u. logOf u (leftIn F))
       (length (hopsOf (leftIn F))) (quiescent (leftIn F)))
   -- the calls are the file's events, each with its answer, and the messages sent are numbered 1, 2, .. in their order
-  pub reading : Reading (map callFor (F .events)) (answersIn F)
+  pub reading : Reading (planIn F) (map callFor (F .events)) (answersIn F)
   pub total : sum ≡ takenTotal (answersIn F)
   -- demand 3 of these logs, this rest and these events with their answers
   pub ordered : Demand3 (planIn F) (λ u. logOf u (leftIn F)) (quiescent (leftIn F)) (answersIn F)

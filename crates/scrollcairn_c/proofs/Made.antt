@@ -75,7 +75,7 @@ send-whole-list b left s g w hs hs′ r whole x = record {
       record {
         answer = y .answer;
         bench = y .bench;
-        records = stored 2000 hs (hopRecords (leftOf (send P s g w (after P cs))))
+        records = stored 2000 hs (hopRecords (leftOf (send s g w (after P cs))))
             (y .records);
       };
 }
@@ -90,8 +90,8 @@ arrive-whole-lists b left j hs hs′ bk bk′ r whole whole′ x = record {
   rule = λ P planned cs e of of′. let y = x .rule P planned cs e (first-hops _ hs of) (first-book _ bk of′) in record {
     answer = y .answer;
     bench = y .bench;
-    records = stored 2000 hs (hopRecords (leftOf (arrive P j (after P cs)))) (y .records);
-    numbers = stored 6400 bk (logBook (leftOf (arrive P j (after P cs)))) (y .numbers);
+    records = stored 2000 hs (hopRecords (leftOf (arrive j (after P cs)))) (y .records);
+    numbers = stored 6400 bk (logBook (leftOf (arrive j (after P cs)))) (y .numbers);
   };
 }
 

@@ -18,11 +18,11 @@ use Rattle.layout.proofs.Tables.{length-tabulate}
 use Rattle.forest.specs.Calls.{refuse, groupsRefusal, drawingRefusal, checkRefusal, checkParents, counted, drawn}
 use Rattle.forest.specs.Forest.{withoutPrimary}
 use Rattle.model.specs.declared.Hop.{Hop}
-use Rattle.model.specs.Network.{Plan, fresh, hopsOf, messagesOf, sumOf, countHops}
+use Rattle.model.specs.Network.{Plan, Network, freshOn, ledgerOf, hopsOf, messagesOf, sumOf, countHops}
 use Rattle.model.specs.Rules.{routeTotal}
 use Rattle.bench_promises.specs.declared.replies.FreshReply.{FreshReply}
-use Rattle.bench_promises.specs.State.{Bench, benchOf, totalsOf}
-use Rattle.bench_promises.specs.Promises.{FreshPromise}
+use Rattle.bench_promises.specs.State.{Bench, hopRecords, logBook, benchOf, totalsOf}
+use Rattle.bench_promises.specs.Promises.{freshNetwork, FreshPromise}
 use Rattle.c_answers.specs.Answers.{unlessRefused}
 use Rattle.c_answers.specs.Replies.{replyOf, openNumbers, lowBits}
 use Rattle.scrollcairn_c.specs.Live.{stepOf, Lists, lists, isOpenShort, openRefusal, openPlan, freshIn, OpenExported}
@@ -153,11 +153,11 @@ module _ (units count : ℕ) (fs qs : List ℕ) (k : Lists) where
   unfolding replyOf
   number-is = ap (λ r. r .refusal) says ∙ number-of
 
-  fresh-totals : noTotals ≡ benchOf P fresh .totals
-  unfolding noTotals benchOf totalsOf fresh hopsOf messagesOf sumOf countHops routeTotal
+  fresh-totals : noTotals ≡ benchOf (freshOn P) .totals
+  unfolding noTotals benchOf totalsOf freshOn ledgerOf hopsOf messagesOf sumOf countHops routeTotal
   fresh-totals = refl
 
-  answered : openedAs looked ≡ stepOf (benchOf P fresh .totals) (openNumbers R)
+  answered : openedAs looked ≡ stepOf (benchOf (freshOn P) .totals) (openNumbers R)
   unfolding openedAs stepOf
   answered = λ i. record { totals = fresh-totals i; reply = says i }
 
@@ -190,24 +190,27 @@ module _ (units count : ℕ) (fs qs : List ℕ) (k : Lists) where
 
     module _ (r : FreshReply) (X : Bench) (hs : List Hop) (bk : List ℕ)
         (promise : FreshPromise units count (looked .groups) (looked .parents) (k .hops) (k .book) r X hs bk) where
-      bench-is : X ≡ benchOf P fresh
+      plan-is : freshNetwork units count (looked .groups) (looked .parents) ≡ freshOn P
       unfolding lookedAt openPlan
-      bench-is = promise .bench ∙ (λ i. benchOf (record {
+      plan-is = λ i. freshOn (record {
         units = units;
         count = count;
         groups = first-groups whole i;
         parents = checkParents units count (first-groups whole i) (first-parents whole i);
-      }) fresh)
+      })
+
+      bench-is : X ≡ benchOf (freshOn P)
+      bench-is = promise .bench ∙ ap benchOf plan-is
 
       pub open-made : OpenExported units count fs qs k (openedAs looked)
           (lists (sets (k .tables) 0 (X .tables)) (sets (k .messages) 0 (X .messages)) (storedPairs (k .pairs) (X .pairs))
           (sets (k .gauges) 0 (X .gauges)) hs bk)
-      unfolding unlessRefused freshIn benchOf
+      unfolding unlessRefused freshIn benchOf freshOn ledgerOf
       open-made = record { answers = answered; leaves = made ∙ sym (ap (λ (l : List ℕ). unlessRefused l (freshIn P k) k) no-refusal) }
         where
-          put : (n : ℕ) (f : Bench → List ℕ) (l : List ℕ) → length (f (benchOf P fresh)) ≡ n → n ≤ length l
-              → sets l 0 (f X) ≡ f (benchOf P fresh) ++ drop n l
-          put n f l e h = ap (λ (b : Bench). sets l 0 (f b)) bench-is ∙ put-first n l (f (benchOf P fresh)) e h
+          put : (n : ℕ) (f : Bench → List ℕ) (l : List ℕ) → length (f (benchOf (freshOn P))) ≡ n → n ≤ length l
+              → sets l 0 (f X) ≡ f (benchOf (freshOn P)) ++ drop n l
+          put n f l e h = ap (λ (b : Bench). sets l 0 (f b)) bench-is ∙ put-first n l (f (benchOf (freshOn P))) e h
 
           made : lists (sets (k .tables) 0 (X .tables)) (sets (k .messages) 0 (X .messages)) (storedPairs (k .pairs) (X .pairs))
               (sets (k .gauges) 0 (X .gauges)) hs bk ≡ freshIn P k
@@ -216,6 +219,6 @@ module _ (units count : ℕ) (fs qs : List ℕ) (k : Lists) where
             messages = put 600 (λ b. b .messages) (k .messages) (messages-length _) (whole .messages) i;
             pairs = (ap (λ (b : Bench). storedPairs (k .pairs) (b .pairs)) bench-is ∙ pairs-first (k .pairs) _ _ (whole .pairs)) i;
             gauges = put 32 (λ b. b .gauges) (k .gauges) (length-tabulate 32 _) (whole .gauges) i;
-            hops = promise .whole (whole .hops) (whole .book) .1 i;
-            book = promise .whole (whole .hops) (whole .book) .2 i;
+            hops = (promise .whole (whole .hops) (whole .book) .1 ∙ ap (λ (W : Network). hopRecords W ++ drop 2000 (k .hops)) plan-is) i;
+            book = (promise .whole (whole .hops) (whole .book) .2 ∙ ap (λ (W : Network). logBook W ++ drop 6400 (k .book)) plan-is) i;
           }

@@ -23,10 +23,10 @@ use Rattle.scrollcairn_c.proofs.Whole.{send-whole, arrive-whole, log-wh
 
 -- ---- send
 
-no-send : (t : Totals) (l : Lists) (P : Plan) (cs : List Call) → isSendShort l ≡ true → benchIn t l ≡ benchOf P (after P cs)
+no-send : (t : Totals) (l : Lists) (P : Plan) (cs : List Call) → isSendShort l ≡ true → benchIn t l ≡ benchOf (after P cs)
     → OfHops (after P cs) (l .hops) → ⊥
 no-send t l P cs short e of =
-    let x = bench-long t l P (after P cs) e in clash short (send-whole _ _ _ _ (x .0) (x .1) (x .2) (of .whole))
+    let x = bench-long t l (after P cs) e in clash short (send-whole _ _ _ _ (x .0) (x .1) (x .2) (of .whole))
 
 pub send-refused : (t : Totals) (s g w : ℕ) (l : Lists) → isSendShort l ≡ true
     → SendExported t s g w l (stepOf t (answerNumbers (Refused 1))) l
@@ -46,10 +46,10 @@ send-refused t s g w l short = record {
 
 -- ---- arrive
 
-no-arrive : (t : Totals) (l : Lists) (P : Plan) (cs : List Call) → isArriveShort l ≡ true → benchIn t l ≡ benchOf P (after P cs)
+no-arrive : (t : Totals) (l : Lists) (P : Plan) (cs : List Call) → isArriveShort l ≡ true → benchIn t l ≡ benchOf (after P cs)
     → OfHops (after P cs) (l .hops) → OfBook (after P cs) (l .book) → ⊥
 no-arrive t l P cs short e of of′ =
-    let x = bench-long t l P (after P cs) e in
+    let x = bench-long t l (after P cs) e in
     clash short (arrive-whole _ _ _ _ _ _ (x .3) (of′ .whole) (send-whole _ _ _ _ (x .0) (x .1) (x .2) (of .whole)))
 
 pub arrive-refused : (t : Totals) (j : ℕ) (l : Lists) → isArriveShort l ≡ true
@@ -72,9 +72,9 @@ arrive-refused t j l short = record {
 
 module _ (unit : ℕ) (ts gs book : List ℕ) (short : logShort (length ts) (length gs) (length book) ≡ true) where
   no-log : (t : Totals) (ms : List ℕ) (ps : List (List (List ℕ))) (P : Plan) (cs : List Call)
-      → benchIn t (lists ts ms ps gs [] book) ≡ benchOf P (after P cs) → OfBook (after P cs) book → ⊥
+      → benchIn t (lists ts ms ps gs [] book) ≡ benchOf (after P cs) → OfBook (after P cs) book → ⊥
   no-log t ms ps P cs e of =
-      let x = bench-long t (lists ts ms ps gs [] book) P (after P cs) e in clash short (log-whole _ _ _ (x .0) (x .3) (of .whole))
+      let x = bench-long t (lists ts ms ps gs [] book) (after P cs) e in clash short (log-whole _ _ _ (x .0) (x .3) (of .whole))
 
   pub log-refused : LogExported unit ts gs book (record { start = 0; length = 0 })
   log-refused = record {

@@ -12,7 +12,7 @@ use Rattle.sets.proofs.Bools.{either}
 use Rattle.layout.proofs.Tables.{length-tabulate}
 use Rattle.forest.specs.Calls.{checkRefusal}
 use Rattle.model.specs.declared.Hop.{Hop}
-use Rattle.model.specs.Network.{Plan, fresh}
+use Rattle.model.specs.Network.{Plan, freshOn}
 use Rattle.model.specs.Rules.{Answer, Refused, Sent, Repeat, Held, Taken}
 use Rattle.model.specs.Calls.{Call, Send, Arrive, Answered, answered, RestAnswer}
 use Rattle.model.specs.Demand3.{Planned, checked}
@@ -70,10 +70,10 @@ module _ (units count : ℕ) (fs qs : List ℕ) (before left : Lists) (r : Step)
   left-is = says .leaves ∙ ap (λ (l : List ℕ). unlessRefused l (freshIn P before) before) accepted
 
   -- the lists left say the fresh bench
-  bench-is : benchOf P fresh ≡ benchIn (r .totals) left
+  bench-is : benchOf (freshOn P) ≡ benchIn (r .totals) left
   unfolding benchIn freshIn stepOf benchOf
   bench-is =
-      let t = sym (ap (λ (x : Step). x .totals) (says .answers)) in let b = benchOf P fresh in
+      let t = sym (ap (λ (x : Step). x .totals) (says .answers)) in let b = benchOf (freshOn P) in
       (λ i. bench (t i) (sym (take-at (b .tables) (drop 140 (before .tables)) 140 (tables-length _ _ _ _)) i)
       (sym (take-at (b .messages) (drop 600 (before .messages)) 600 (messages-length _)) i) (b .pairs)
       (sym (take-at (b .gauges) (drop 32 (before .gauges)) 32 (length-tabulate 32 _)) i))

@@ -11,7 +11,7 @@ use Rattle.sets.proofs.Bools.{or-none}
 use Rattle.layout.proofs.Tables.{length-tabulate}
 use Rattle.forest_tables.specs.Computed.{tablesOf, columnsOf}
 use Rattle.model.specs.declared.Message.{Message}
-use Rattle.model.specs.Network.{Plan, Network}
+use Rattle.model.specs.Network.{Network, ledgerOf, planInUse}
 use Rattle.bench_promises.specs.declared.Totals.{Totals}
 use Rattle.bench_promises.specs.State.{Bench, benchOf, messageList, messageColumn}
 use Rattle.scrollcairn_c.specs.Live.{Lists, benchIn, sendShort, arriveShort, openShort, logShort}
@@ -71,10 +71,10 @@ messages-length ms = simp (length-append, length-tabulate) refl
 covers : {A : Type 0} (n : ℕ) (l : List A) → length (take n l) ≡ n → n ≤ length l
 covers n l e = omega (arith, length-take n l, e)
 
-pub bench-long : (t : Totals) (l : Lists) (P : Plan) (W : Network) → benchIn t l ≡ benchOf P W
+pub bench-long : (t : Totals) (l : Lists) (W : Network) → benchIn t l ≡ benchOf W
     → (140 ≤ length (l .tables)) × (600 ≤ length (l .messages)) × (2 ≤ length (l .pairs)) × (32 ≤ length (l .gauges))
 unfolding benchIn benchOf
-bench-long t l P W e = (
+bench-long t l W e = let P = planInUse W in (
   covers 140 (l .tables) (ap (λ (b : Bench). length (b .tables)) e ∙ tables-length (P .units) (P .count) (P .groups) (P .parents)),
   covers 600 (l .messages) (ap (λ (b : Bench). length (b .messages)) e ∙ messages-length _),
   covers 2 (l .pairs) (ap (λ (b : Bench). length (b .pairs)) e),

@@ -10,7 +10,7 @@ use lib.ListN.{length, take, drop}
 use lib.Dec.{ltb}
 use Rattle.forest.specs.Calls.{checkRefusal, checkParents}
 use Rattle.model.specs.declared.Hop.{Hop}
-use Rattle.model.specs.Network.{Plan, fresh}
+use Rattle.model.specs.Network.{Plan, freshOn}
 use Rattle.model.specs.Rules.{Refused}
 use Rattle.bench_promises.specs.declared.Totals.{Totals}
 use Rattle.bench_promises.specs.declared.replies.SendReply.{SendReply}
@@ -102,17 +102,17 @@ openPlan units count groups parents = record {
 -- a fresh bench on a forest stands at the start of the lists
 unfoldable pub freshIn : Plan → Lists → Lists
 freshIn P l = record {
-  tables = benchOf P fresh .tables ++ drop 140 (l .tables);
-  messages = benchOf P fresh .messages ++ drop 600 (l .messages);
-  pairs = benchOf P fresh .pairs ++ drop 2 (l .pairs);
-  gauges = benchOf P fresh .gauges ++ drop 32 (l .gauges);
-  hops = hopRecords fresh ++ drop 2000 (l .hops);
-  book = logBook fresh ++ drop 6400 (l .book);
+  tables = benchOf (freshOn P) .tables ++ drop 140 (l .tables);
+  messages = benchOf (freshOn P) .messages ++ drop 600 (l .messages);
+  pairs = benchOf (freshOn P) .pairs ++ drop 2 (l .pairs);
+  gauges = benchOf (freshOn P) .gauges ++ drop 32 (l .gauges);
+  hops = hopRecords (freshOn P) ++ drop 2000 (l .hops);
+  book = logBook (freshOn P) ++ drop 6400 (l .book);
 }
 
 -- its totals are those of a fresh bench, four zeros, beside a refusal too, where no rule says which
 pub record OpenExported (units count : ℕ) (groups parents : List ℕ) (before : Lists) (r : Step) (left : Lists) : Type 0 where
-  pub answers : r ≡ stepOf (benchOf (openPlan units count groups parents) fresh .totals)
+  pub answers : r ≡ stepOf (benchOf (freshOn (openPlan units count groups parents)) .totals)
       (openNumbers (openRefusal units count groups parents before))
   pub leaves : left ≡ unlessRefused (openRefusal units count groups parents before)
       (freshIn (openPlan units count groups parents) before) before

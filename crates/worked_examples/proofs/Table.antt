@@ -14,18 +14,19 @@ use Rattle.forest.specs.Forest.{primary, hasPrimary, route, forwarders, routeSi
 use Rattle.forest.specs.Calls.{countedAt, drawnAt, emptyAt, outsideAt, outsideParent, counted, drawn, badCounts, emptyGroups}
 use Rattle.forest.specs.Calls.{outsideGroups, outsideParents, refuse, groupsRefusal, drawingRefusal, orRoots, buildRefusal, buildParents}
 use Rattle.forest.specs.Calls.{checkRefusal, checkParents}
-use Rattle.model.specs.Network.{sumOf, bit, groupOf, primaryOf, routeOf, routeSizeOf, fresh, messageAt, hopAt, logOf, hopsOf, isOut}
-use Rattle.model.specs.Network.{messagesOf, isHeld, isTaken, withState, setState, isPair, countHops, pairCount, newHop, made}
-use Rattle.model.specs.Rules.{refuse as refuse-call, refused, routeTotal, send, push, rising, childrenOn, forward, logged, takeHop, lower}
-use Rattle.model.specs.Rules.{lowestUntaken, placeOf, isHeldAt, nextHeld, tally, settle, hold, arrive, allTaken, quiescent}
+use Rattle.model.specs.Network.{sumOf, bit, groupOf, primaryOf, routeOf, routeSizeOf, noPlan, planAt, forestsOf, freshOn, noMessage}
+use Rattle.model.specs.Network.{ledgerOf, messageAt, hopAt, logOf, hopsOf, isOut, messagesOf, isHeld, isTaken, withState, setState}
+use Rattle.model.specs.Network.{isPair, countHops, pairCount, newHop, made}
+use Rattle.model.specs.Rules.{refuse as refuse-call, refused, routeTotal, send, push, rising, childrenOn, forward, logged, takeHop}
+use Rattle.model.specs.Rules.{lower, lowestUntaken, placeOf, isHeldAt, nextHeld, tally, settle, hold, arrive, allTaken, quiescent}
 use Rattle.model.specs.Calls.{call, recorded, step as step-call, runFrom, run, log, rest}
 use Rattle.model.specs.Claims.{callOf}
 use Rattle.model.specs.Demand3.{Planned, built, checked}
 use Rattle.text.specs.Text.{isBad, digit, number, decimalWithin, decimal, inFront, split, join, startsWith, after, isWord, some}
 use Rattle.lines.specs.Lines.{refuse as refuse-line, unitsKey, groupsKey, groupKey, parentsKey, sendKey, arriveKey, buildWord, rootWord}
 use Rattle.lines.specs.Lines.{numbersIn, countIn, countFault, unitsFault, groupsFault, countLine, risesFrom, groupIn, groupFault}
-use Rattle.lines.specs.Lines.{entry as entry-in, entriesIn, parentOf, parentsIn, parentsFault, isBuild, parentsTable, badSend, eventFault}
-use Rattle.lines.specs.Lines.{eventIn}
+use Rattle.lines.specs.Lines.{entry as entry-in, entriesIn, parentOf, parentsIn, parentsFault, isBuild, parentsTable, badSend}
+use Rattle.lines.specs.Lines.{eventFault, eventIn}
 use Rattle.benchfile.specs.File.{next, step, finish, steps, readFile, ended}
 use Rattle.benchfile.specs.Calls.{WroteBytes, contentOf}
 use Rattle.output_lines.specs.Output.{refusedKey, logKey, hopsKey, restKey, answerWord, refusedLine, messageTexts, logLine, hopsLine}
@@ -36,30 +37,28 @@ use Rattle.runner.specs.declared.RunAnswer.{RunAnswer}
 use Rattle.runner.proofs.Theorems.{run-bytes}
 use Rattle.worked_examples.specs.Table.{Outcome, Refusal, Parents, Prints, Bench, Built, Drawn, benchRefusal, benchPlan}
 use Rattle.worked_examples.specs.Table.{unlessRefused, routeOutcome, runOutcome, outcome, unitSet, filled, groups}
-use Rattle.worked_examples.specs.Table.{root as rootParent}
-use Rattle.worked_examples.specs.Table.{drawing, forest, sends, arrives, message, out, taken, bytes, lines, benchP1, benchP2}
-use Rattle.worked_examples.specs.Table.{groupsC, builtC, drawnC, benchP5, benchP6, benchP7, callsP7, callsP8, hopsP8, logsP8}
-use Rattle.worked_examples.specs.Table.{fileP8, sendP7, noLogs, printsP8, callsP9, fileP10, printsP10, table, stated, computed}
+use Rattle.worked_examples.specs.Table.{root as rootParent, drawing, forest, sends, arrives, message, out, taken, bytes, lines}
+use Rattle.worked_examples.specs.Table.{benchP1, benchP2, groupsC, builtC, drawnC, benchP5, benchP6, benchP7, callsP7, callsP8}
+use Rattle.worked_examples.specs.Table.{hopsP8, logsP8, fileP8, sendP7, noLogs, printsP8, callsP9, fileP10, printsP10, table}
+use Rattle.worked_examples.specs.Table.{stated, computed}
 
 pub table-holds : map computed table ≡ map stated table
-unfolding onesIn trailingZeros member single below union intersection difference including includingIf size lowest collect tabulate holdsAt
-    absorbed groupsOf degree setAside spread rounds component betterOf largestWithin root parentWithin builtParent built-forest onRoute
-    lacksPrimary parent ancestorsWithin ancestors above ownAncestor aboveEvery aboveSome primary hasPrimary route forwarders routeSize
-    cyclicUnits withoutPrimary countedAt drawnAt emptyAt outsideAt outsideParent counted drawn badCounts emptyGroups outsideGroups
-    outsideParents refuse groupsRefusal drawingRefusal orRoots buildRefusal buildParents checkRefusal checkParents sumOf bit groupOf
-    primaryOf routeOf routeSizeOf fresh messageAt hopAt logOf messagesOf hopsOf isOut isHeld isTaken withState setState
-    isPair countHops pairCount
-    newHop made refuse-call refused routeTotal send push rising childrenOn forward logged takeHop lower lowestUntaken placeOf isHeldAt
-    nextHeld tally settle hold arrive allTaken quiescent call recorded step-call runFrom run log rest isBad digit number decimalWithin
-    decimal inFront split join startsWith after isWord some refuse-line unitsKey groupsKey groupKey parentsKey sendKey arriveKey buildWord
-    rootWord numbersIn countIn countFault unitsFault groupsFault countLine risesFrom groupIn groupFault entry-in entriesIn parentOf
-    parentsIn parentsFault isBuild parentsTable badSend eventFault eventIn next step finish steps readFile ended contentOf refusedKey logKey
-    hopsKey restKey answerWord refusedLine messageTexts logLine hopsLine restLine forestRefusal forestParents planOf callFor ranOn onForest
-    resultOf result refusedAs refusedEvents logLines runLines resultLines printed benchRefusal benchPlan unlessRefused routeOutcome
-    runOutcome outcome unitSet filled groups rootParent drawing forest sends arrives callOf message out taken bytes lines
-    benchP1 benchP2 groupsC builtC
-    drawnC benchP5 benchP6 benchP7 sendP7 callsP7 callsP8 hopsP8 logsP8 fileP8 printsP8 callsP9 noLogs fileP10
-    printsP10 table stated computed
+unfolding onesIn trailingZeros member single below union intersection difference including includingIf size lowest collect tabulate
+    holdsAt absorbed groupsOf degree setAside spread rounds component betterOf largestWithin root parentWithin builtParent built-forest
+    onRoute lacksPrimary parent ancestorsWithin ancestors above ownAncestor aboveEvery aboveSome primary hasPrimary route forwarders
+    routeSize cyclicUnits withoutPrimary countedAt drawnAt emptyAt outsideAt outsideParent counted drawn badCounts emptyGroups
+    outsideGroups outsideParents refuse groupsRefusal drawingRefusal orRoots buildRefusal buildParents checkRefusal checkParents sumOf bit
+    groupOf primaryOf routeOf routeSizeOf noPlan planAt forestsOf freshOn noMessage ledgerOf messageAt hopAt logOf messagesOf hopsOf isOut
+    isHeld isTaken withState setState isPair countHops pairCount newHop made refuse-call refused routeTotal send push rising childrenOn
+    forward logged takeHop lower lowestUntaken placeOf isHeldAt nextHeld tally settle hold arrive allTaken quiescent call recorded
+    step-call runFrom run log rest isBad digit number decimalWithin decimal inFront split join startsWith after isWord some refuse-line
+    unitsKey groupsKey groupKey parentsKey sendKey arriveKey buildWord rootWord numbersIn countIn countFault unitsFault groupsFault
+    countLine risesFrom groupIn groupFault entry-in entriesIn parentOf parentsIn parentsFault isBuild parentsTable badSend eventFault
+    eventIn next step finish steps readFile ended contentOf refusedKey logKey hopsKey restKey answerWord refusedLine messageTexts logLine
+    hopsLine restLine forestRefusal forestParents planOf callFor ranOn onForest resultOf result refusedAs refusedEvents logLines runLines
+    resultLines printed benchRefusal benchPlan unlessRefused routeOutcome runOutcome outcome unitSet filled groups rootParent drawing
+    forest sends arrives callOf message out taken bytes lines benchP1 benchP2 groupsC builtC drawnC benchP5 benchP6 benchP7 sendP7 callsP7
+    callsP8 hopsP8 logsP8 fileP8 printsP8 callsP9 noLogs fileP10 printsP10 table stated computed
 table-holds = refl
 
 -- ---- the premise of demand 3 is met, by a check and by a build

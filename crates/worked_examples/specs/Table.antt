@@ -61,7 +61,7 @@ unfoldable pub routeOutcome : Plan → (group : ℕ) → Outcome
 routeOutcome P g = Route (routeOf P g) (routeSizeOf P g) (forwarders (P .parents) (groupOf P g))
 
 unfoldable pub runOutcome : Plan → Run → Outcome
-runOutcome P (ran W past) = Ran past (messagesOf W) (hopsOf W) (tabulate (P .units) (λ u. log P u 6400 W)) (rest 2000 W)
+runOutcome P (ran W past) = Ran past (messagesOf W) (hopsOf W) (tabulate (P .units) (λ u. log u 6400 W)) (rest 2000 W)
 
 unfoldable pub outcome : Input → Outcome
 outcome (ForestOf b) = unlessRefused (benchRefusal b) (Parents (benchPlan b .parents))
@@ -104,7 +104,7 @@ unfoldable pub arrives : (hop : ℕ) → Call
 arrives j = Arrive j 2000 6400
 
 unfoldable pub message : (source group word : ℕ) → Message
-message s g w = record { source = s; group = g; word = w }
+message s g w = record { source = s; group = g; word = w; forest = 0 }
 
 -- a hop that is out, one that was taken
 unfoldable pub out : (sender receiver sequence message : ℕ) → Hop

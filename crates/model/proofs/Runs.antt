@@ -17,7 +17,8 @@ use Rattle.model.specs.Network.{network, freshOn, hopAt, ledgerOf, planI
 use Rattle.model.specs.Network.{setState, countHops, newHop, made}
 use Rattle.model.specs.Rules.{Answer, Refused, Sent, Repeat, Outcome, outcome, leftOf, refuse, refused, routeTotal, send, settle}
 use Rattle.model.specs.Rules.{hold, arrive}
-use Rattle.model.specs.Calls.{Call, Send, Arrive, call, Answered, answered, Run, ran, recorded, step, runFrom, run, historyOf}
+use Rattle.model.specs.Calls.{Call, Send, Arrive, call, Answered, answered, Run, ran, recorded, step, runFrom, run, networkOf}
+use Rattle.model.specs.Calls.{historyOf}
 use Rattle.model.specs.Demand3.{SentMessage, sentAs, sentBy, planAfter, sent, carried, takenTotal}
 use Rattle.model.specs.Claims.{callOf}
 use Rattle.model.proofs.Hops.{length-state, count-snoc, count-state, count-length}
@@ -29,6 +30,8 @@ use Rattle.model.proofs.Idle.{Idle, idle-made, OthersIdle, others-state
 use Rattle.model.proofs.Readings.{numberedAs, enumerate, enumerate-snoc, planNow, now-snoc, sent-snoc, total-snoc}
 use Rattle.model.proofs.Networks.{plan-last, plan-snoc, Valid, state-lawful, sent-lawful}
 use Rattle.model.proofs.Settling.{SettlesAs, settles}
+use Rattle.model.proofs.Planning.{no-forest}
+use Rattle.model.proofs.Progress.{step-history}
 
 -- ---- what a list of calls keeps
 
@@ -174,11 +177,11 @@ module _ (P : Plan) (past : List Answered) where
 -- ---- lists
 
 module _ (P : Plan) where
-  unfoldable pub KeptRun : Run → Type 0
-  KeptRun (ran W past) = Kept P past W
+  abbrev KeptRun : Run → Type 0
+  KeptRun r = Kept P (historyOf r) (networkOf r)
 
-  pub kept-step : (c : Call) (r : Run) → KeptRun r → KeptRun (step c r)
-  unfolding step KeptRun recorded KeptBy
+  kept-step : (c : Call) (r : Run) → KeptRun r → KeptRun (step c r)
+  unfolding step recorded historyOf networkOf KeptBy
   kept-step c (ran W past) K = record-kept (call c W) (kept-call P past W c K)
     where
       record-kept : (o : Outcome) → KeptBy P past c o → KeptRun (recorded c past o)
@@ -189,12 +192,12 @@ module _ (P : Plan) where
   kept-from [] r K = K
   kept-from (c ∷ cs) r K = kept-from cs (step c r) (kept-step c r K)
 
-  pub kept-run : Forest P → Forest noPlan → (cs : List Call) → KeptRun (run P cs)
-  unfolding run KeptRun freshOn forestsOf Valid sent enumerate ledgerOf messagesOf takenTotal countHops sumOf hopsOf Idle planNow routeTotal
-      downFrom planAt noPlan
-  kept-run forest none cs = kept-from cs (ran (freshOn P) []) (record {
+  pub kept-run : Forest P → (cs : List Call) → Kept P (historyOf (run P cs)) (networkOf (run P cs))
+  unfolding run historyOf networkOf freshOn forestsOf Valid sent enumerate ledgerOf messagesOf takenTotal countHops sumOf hopsOf Idle
+      planNow routeTotal downFrom planAt noPlan
+  kept-run forest cs = kept-from cs (ran (freshOn P) []) (record {
     valid = record {
-      planted = plan-snoc Forest [] P (λ f. none) forest;
+      planted = plan-snoc Forest [] P (λ f. no-forest) forest;
       grown = plan-snoc (λ Q. Q .units ≤ P .units) [] P (λ f. omega arith) (omega arith);
       few = omega arith;
       room = omega arith;
@@ -209,11 +212,8 @@ module _ (P : Plan) where
 -- ---- the reading of a list
 
 step-calls : (c : Call) (r : Run) → map callOf (historyOf (step c r)) ≡ map callOf (historyOf r) ++ c ∷ []
-unfolding step historyOf recorded callOf
-step-calls c (ran W past) = recorded-call (call c W)
-  where
-    recorded-call : (o : Outcome) → map callOf (historyOf (recorded c past o)) ≡ map callOf past ++ c ∷ []
-    recorded-call (outcome a W′) = map-append callOf past (answered c a ∷ [])
+unfolding callOf
+step-calls c r = ap (map callOf) (step-history c r) ∙ map-append callOf (historyOf r) (_ ∷ [])
 
 calls-from : (cs : List Call) (r : Run) → map callOf (historyOf (runFrom cs r)) ≡ map callOf (historyOf r) ++ cs
 unfolding runFrom

@@ -1,24 +1,24 @@
 -- Demand 3 and what goes with it, for every plan whose forest comes from an unrefused `build` or `check`, and every list of calls.
 -- docs/PROOFS.md leads here. Assumes nothing.
 use mathlib.Core.Path.{_≡_, ap, subst, _∙_}
-use mathlib.Core.Bool.{true, false}
-use mathlib.Core.List.{List, map}
+use mathlib.Core.Bool.{false}
+use mathlib.Core.List.{List}
 use Prim.Native.Nat.{ℕ, _<_}
 use lib.ListN.{length}
 use Rattle.model.specs.Network.{Plan, planAt, planFor, forestsOf, Network, network, messageAt, hopAt, ledgerOf, planInUse}
 use Rattle.model.specs.Network.{messagesOf, hopsOf, logOf, isTaken, countHops}
-use Rattle.model.specs.Rules.{rising, quiescent}
-use Rattle.model.specs.Calls.{Call, Run, ran, run, networkOf, historyOf}
-use Rattle.model.specs.Demand3.{Planned, sent, takenTotal, Demand3}
+use Rattle.model.specs.Rules.{quiescent}
+use Rattle.model.specs.Calls.{Call, Answered, run, networkOf, historyOf}
+use Rattle.model.specs.Demand3.{Planned, takenTotal, Demand3}
 use Rattle.model.specs.Claims.{Limits, Settled, Reading}
-use Rattle.model.proofs.Planning.{planned-forest, no-forest}
+use Rattle.model.proofs.Planning.{planned-forest}
 use Rattle.model.proofs.Sequences.{Numbered}
 use Rattle.model.proofs.Idle.{Idle, idle-settled}
 use Rattle.model.proofs.Sound.{Forest}
 use Rattle.model.proofs.Rest.{TakenFirst, sound-first, own-mail, in-flight}
 use Rattle.model.proofs.Readings.{enumerate-numbers}
 use Rattle.model.proofs.Networks.{plan-last, Valid, own-sound}
-use Rattle.model.proofs.Runs.{KeptRun, kept-run, run-calls}
+use Rattle.model.proofs.Runs.{Kept, kept-run, run-calls}
 use Rattle.model.proofs.Demand.{sound-limits, sound-demand}
 
 -- ---- of a valid network, between two copies of one arrival too
@@ -61,60 +61,48 @@ valid-group (network L ms hs ls) K j b waits =
 
 -- ---- of a list of calls
 
-module _ (P : Plan) where
-  run-demand : (r : Run) → KeptRun P r → Demand3 P (λ u. logOf u (networkOf r)) (quiescent (networkOf r)) (historyOf r)
-  unfolding KeptRun networkOf historyOf ledgerOf messagesOf hopsOf Valid
-  run-demand (ran (network L ms hs ls) past) kept = sound-demand L ms hs ls (kept .valid) P past (kept .sends) (kept .takes)
-
-  run-numbers : (r : Run) → KeptRun P r → map (λ x. x .number) (sent P (historyOf r)) ≡ rising (length (sent P (historyOf r))) 1
-      (λ n. true)
-  unfolding KeptRun historyOf
-  run-numbers (ran W past) kept = rw (kept .sends) (enumerate-numbers (forestsOf (ledgerOf W)) 1 (messagesOf W))
-
-  kept-valid : (r : Run) → KeptRun P r → Valid (networkOf r)
-  unfolding KeptRun networkOf
-  kept-valid (ran W past) kept = kept .valid
-
-  kept-takes : (r : Run) → KeptRun P r → takenTotal (historyOf r) ≡ countHops isTaken (hopsOf (networkOf r))
-  unfolding KeptRun networkOf historyOf
-  kept-takes (ran W past) kept = kept .takes
-
-  kept-idle : (r : Run) → KeptRun P r → (s t : ℕ) → Idle (hopsOf (networkOf r)) s t
-  unfolding KeptRun networkOf
-  kept-idle (ran W past) kept = kept .idle
+kept-demand : (P : Plan) (past : List Answered) (W : Network) → Kept P past W → Demand3 P (λ u. logOf u W) (quiescent W) past
+unfolding ledgerOf messagesOf hopsOf Valid
+kept-demand P past (network L ms hs ls) kept = sound-demand L ms hs ls (kept .valid) P past (kept .sends) (kept .takes)
 
 module _ (P : Plan) (planned : Planned P) (cs : List Call) where
-  kept : KeptRun P (run P cs)
-  kept = kept-run P (planned-forest P planned) no-forest cs
+  abbrev W : Network
+  W = networkOf (run P cs)
+
+  kept : Kept P (historyOf (run P cs)) W
+  kept = kept-run P (planned-forest P planned) cs
 
   -- demand 3, whole
   pub demand-3 : Demand3 P (λ u. logOf u (networkOf (run P cs))) (quiescent (networkOf (run P cs))) (historyOf (run P cs))
-  demand-3 = run-demand P (run P cs) kept
+  demand-3 = kept-demand P (historyOf (run P cs)) W kept
 
   -- what is read off the list
   pub reading : Reading P cs (historyOf (run P cs))
-  reading = record { calls = run-calls P cs; numbers = run-numbers P (run P cs) kept }
+  reading = record {
+    calls = run-calls P cs;
+    numbers = rw (kept .sends) (enumerate-numbers (forestsOf (ledgerOf W)) 1 (messagesOf W));
+  }
 
   -- the copies taken are those that the answers count
   pub run-takes : takenTotal (historyOf (run P cs)) ≡ countHops isTaken (hopsOf (networkOf (run P cs)))
-  run-takes = kept-takes P (run P cs) kept
+  run-takes = kept .takes
 
   pub run-valid : Valid (networkOf (run P cs))
-  run-valid = kept-valid P (run P cs) kept
+  run-valid = kept .valid
 
   -- the limits of messages, hops, logs and sequence numbers
   pub limits : Limits (networkOf (run P cs))
-  limits = valid-limits (networkOf (run P cs)) run-valid
+  limits = valid-limits W run-valid
 
   pub run-numbered : Numbered (hopsOf (networkOf (run P cs)))
-  run-numbered = valid-numbered (networkOf (run P cs)) run-valid
+  run-numbered = valid-numbered W run-valid
 
   pub run-taken-first : TakenFirst (hopsOf (networkOf (run P cs)))
-  run-taken-first = valid-first (networkOf (run P cs)) run-valid
+  run-taken-first = valid-first W run-valid
 
   -- the fuel of `settle` suffices: no pair has a copy left to be taken
   pub run-idle : (s r : ℕ) → Idle (hopsOf (networkOf (run P cs))) s r
-  run-idle = kept-idle P (run P cs) kept
+  run-idle = kept .idle
 
   pub settled : (s r : ℕ) → Settled s r (hopsOf (networkOf (run P cs)))
-  settled s r = idle-settled (hopsOf (networkOf (run P cs))) s r run-numbered (run-idle s r)
+  settled s r = idle-settled (hopsOf W) s r run-numbered (run-idle s r)

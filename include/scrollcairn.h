@@ -31,8 +31,8 @@
  * Threads: there is no global state and no heap. Calls on different benches and lists may run at the same time; one bench, or one list,
  * belongs to one thread at a time.
  *
- * Stack: scrollcairn_run takes some 85 KB; scrollcairn_open and scrollcairn_bench_open some 16 KB at most; the other calls on a bench under
- * 6 KB; the rest less than scrollcairn_run. */
+ * Stack: scrollcairn_run takes some 120 KB; scrollcairn_open and scrollcairn_bench_open some 16 KB at most; the other calls on a bench
+ * under 6 KB; the rest less than scrollcairn_run. */
 #ifndef SCROLLCAIRN_H
 #define SCROLLCAIRN_H
 
@@ -40,9 +40,9 @@
 #include <stdint.h>
 
 #define SCROLLCAIRN_VERSION_MAJOR 0
-#define SCROLLCAIRN_VERSION_MINOR 2
+#define SCROLLCAIRN_VERSION_MINOR 3
 #define SCROLLCAIRN_VERSION_PATCH 0
-#define SCROLLCAIRN_VERSION "0.2.0"
+#define SCROLLCAIRN_VERSION "0.3.0"
 
 #ifdef __cplusplus
 extern "C" {
@@ -118,16 +118,17 @@ void scrollcairn_check(size_t units, const uint32_t groups[24], size_t count, co
                        uint64_t answer[3]);
 
 /* Reads a bench file. `counts` gets the units, the groups that count, 1 for `parents=build` (else 0), and the events; `parents` the drawn
- * forest; `events`, of at least SCROLLCAIRN_EVENTS numbers, three numbers for each event. Answers how many numbers were written to
- * `events`, and the line of `parents=`. Refused: 1; 2 to 9, and at which line. */
-void scrollcairn_read(const uint8_t *file, size_t file_length, uint16_t *events, size_t events_length,
+ * forest; `events`, of at least SCROLLCAIRN_EVENTS numbers, three numbers for each event: of a send source + 1, group and word, of an
+ * arrival 0, hop and 0. Answers how many numbers were written to `events`, and the line of `parents=`. Refused: 1; 2 to 9, and at which
+ * line. */
+void scrollcairn_read(const uint8_t *file, size_t file_length, uint32_t *events, size_t events_length,
                       uint32_t groups[24], uint8_t parents[32], uint16_t counts[4], uint64_t answer[3]);
 
 /* Writes the bench file that scrollcairn_read took apart, at the start of `out`, of at least SCROLLCAIRN_FILE bytes.
  * Of `counts` the first two are taken as their lowest eight bits, and a third other than 0 is `build`. Answers how many bytes.
  * Refused: 1. */
 void scrollcairn_write(const uint32_t groups[24], const uint8_t parents[32], const uint16_t counts[4],
-                       const uint16_t *events, size_t events_length, uint8_t *out, size_t out_length, uint64_t answer[3]);
+                       const uint32_t *events, size_t events_length, uint8_t *out, size_t out_length, uint64_t answer[3]);
 
 /* ---- A bench in lists of the caller's own. A bench is its totals, by value, and six lists:
  *
@@ -173,9 +174,9 @@ scrollcairn_step scrollcairn_open(size_t units, const uint32_t *groups, size_t g
                                   uint16_t *gauges, size_t gauges_length, scrollcairn_hop *hops, size_t hops_length,
                                   uint16_t *book, size_t book_length);
 
-/* Sends a word from a source to a group: records the message, and a hop from the source to the group's primary, whose number is that of
- * the hops made before. Replies: sent. Refused: 1, 12, 13, 14, 15, in this order. */
-scrollcairn_step scrollcairn_send(scrollcairn_totals totals, uint16_t source, uint16_t group, uint16_t word,
+/* Sends a word, of 32 bits, from a source to a group: records the message, and a hop from the source to the group's primary, whose number
+ * is that of the hops made before. Replies: sent. Refused: 1, 12, 13, 14, 15, in this order. */
+scrollcairn_step scrollcairn_send(scrollcairn_totals totals, uint16_t source, uint16_t group, uint32_t word,
                                   uint32_t *tables, size_t tables_length, uint32_t *messages, size_t messages_length,
                                   uint16_t (*pairs)[32][32], size_t pairs_length, scrollcairn_hop *hops, size_t hops_length);
 
@@ -238,7 +239,7 @@ static inline scrollcairn_reply scrollcairn_bench_build(scrollcairn_bench *bench
     return refused;
 }
 
-static inline scrollcairn_reply scrollcairn_bench_send(scrollcairn_bench *bench, uint16_t source, uint16_t group, uint16_t word) {
+static inline scrollcairn_reply scrollcairn_bench_send(scrollcairn_bench *bench, uint16_t source, uint16_t group, uint32_t word) {
     scrollcairn_step step = scrollcairn_send(
         bench->totals, source, group, word, bench->tables, SCROLLCAIRN_TABLES, bench->messages, SCROLLCAIRN_MESSAGE_NUMBERS,
         bench->pairs, SCROLLCAIRN_PAIRS, bench->hops, SCROLLCAIRN_HOPS);

@@ -87,7 +87,7 @@ public:
         return told(scrollcairn_bench_build(&bench_, units, groups.data(), count));
     }
 
-    reply send(std::uint16_t source, std::uint16_t group, std::uint16_t word) noexcept {
+    reply send(std::uint16_t source, std::uint16_t group, std::uint32_t word) noexcept {
         return told(scrollcairn_bench_send(&bench_, source, group, word));
     }
     reply arrive(std::uint16_t hop) noexcept { return told(scrollcairn_bench_arrive(&bench_, hop)); }

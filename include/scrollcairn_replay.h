@@ -30,7 +30,8 @@ enum { SCROLLCAIRN_REPLY_LOG = 7 };    /* how many messages; they follow. Turned
 
 /* Makes a fresh bench on a forest, lent the first `fresh_hops` of 2,008 hop records and the first `fresh_book` of `book`, and runs a list
  * of calls on it. A call is six numbers: kind, a, b, c, and how many hop records and log numbers it is lent (all there are where that is
- * more). Fewer than six numbers at the end are no call.
+ * more). A source, group, hop or unit above 65,535 is taken for 65,535, which is none. Fewer than six numbers at the end are no
+ * call.
  *
  * `replies` gets three numbers for each call, in order: the number of the refusal (or 0), the kind of the reply, its value; behind those
  * of a log its messages.
@@ -44,7 +45,7 @@ enum { SCROLLCAIRN_REPLY_LOG = 7 };    /* how many messages; they follow. Turned
  * `replies` is shorter than SCROLLCAIRN_HOP_NUMBERS, SCROLLCAIRN_BENCH_NUMBERS, or SCROLLCAIRN_REPLY_NUMBERS for each call; 5, 4, 6, 10,
  * 11 as scrollcairn_check; 1 with 0, where a list lent to the fresh bench is too short. Its stack is some 60 KB. */
 void scrollcairn_calls(size_t units, const uint32_t groups[24], size_t count, const uint8_t parents[32],
-                       size_t fresh_hops, size_t fresh_book, const uint16_t *calls, size_t calls_length,
+                       size_t fresh_hops, size_t fresh_book, const uint32_t *calls, size_t calls_length,
                        uint16_t *book, size_t book_length, uint16_t *hops, size_t hops_length,
                        uint32_t *bench, size_t bench_length, uint16_t *replies, size_t replies_length, uint64_t answer[3]);
 

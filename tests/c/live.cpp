@@ -1,4 +1,5 @@
-// Document 01's run P8 in C++: prints what the program prints for examples/rack-of-four.bench. A copy of the bench goes its own way.
+// Document 01's run P8 in C++, with a word of 32 bits: prints what the program prints for examples/rack-of-four.bench. A copy of the
+// bench goes its own way.
 #include "scrollcairn.hpp"
 #include <cstdio>
 
@@ -36,7 +37,9 @@ int main() {
     if (!rack.build(4, groups, 4) || !rack.open(4, groups, 4, {{SCROLLCAIRN_ROOT, 2, 0, 2}}))
         return 1;
     rack.send(3, 0, 500);
-    rack.send(1, 2, 600);
+    rack.send(1, 2, 4294967295);
+    if (rack.plain().messages[SCROLLCAIRN_MESSAGES * 2 + 1] != 4294967295)
+        return 1;
     for (std::uint16_t hop : early)
         rack.arrive(hop);
     if (!goes_its_own_way(rack))

@@ -36,13 +36,15 @@ struct lists {
 };
 
 struct call {
-    uint16_t kind, a, b, c;
+    uint16_t kind, a, b;
+    uint32_t c;
 };
 
 /* The calls of a round, as the replay is given them, and the replies that it must give. */
 struct record {
     size_t calls, numbers;
-    uint16_t call[CALLS * SCROLLCAIRN_CALL_NUMBERS], reply[CALLS * SCROLLCAIRN_REPLY_NUMBERS];
+    uint32_t call[CALLS * SCROLLCAIRN_CALL_NUMBERS];
+    uint16_t reply[CALLS * SCROLLCAIRN_REPLY_NUMBERS];
 };
 
 /* How often each refusal and kind of reply came, and each list of a call was one element too short. */
@@ -329,7 +331,7 @@ static void open_any(size_t more) {
 /* A call on a bench as it is, sometimes one that is refused. */
 static struct call some_call(const struct lists *l, unsigned sends) {
     static const uint16_t far[] = {32, 200, 2000, 65535};
-    struct call c = {below(10), below(40), below((uint32_t)l->count + 1), (uint16_t)any()};
+    struct call c = {below(10), below(40), below((uint32_t)l->count + 1), any()};
     if (c.kind > SCROLLCAIRN_CALL_REST)
         c.kind = below(4) < sends ? SCROLLCAIRN_CALL_SEND : SCROLLCAIRN_CALL_ARRIVE;
     if (c.kind == SCROLLCAIRN_CALL_SEND && below(8) != 0)
@@ -342,7 +344,7 @@ static struct call some_call(const struct lists *l, unsigned sends) {
 }
 
 static void put(struct record *r, struct call c, scrollcairn_reply reply, const uint16_t *first) {
-    uint16_t call[] = {c.kind, c.a, c.b, c.c, SCROLLCAIRN_HOPS_LENT, SCROLLCAIRN_BOOK};
+    uint32_t call[] = {c.kind, c.a, c.b, c.c, SCROLLCAIRN_HOPS_LENT, SCROLLCAIRN_BOOK};
     memcpy(r->call + r->calls * SCROLLCAIRN_CALL_NUMBERS, call, sizeof call);
     memcpy(r->reply + r->numbers, &reply, sizeof reply);
     r->calls++;

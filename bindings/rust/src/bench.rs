@@ -20,7 +20,7 @@ pub enum Arrival {
 pub struct Message {
     pub source: u16,
     pub group: u16,
-    pub word: u16,
+    pub word: u32,
 }
 
 /// A bench: forest, messages, hops and logs, some 36 KB. It is a value without heap: a clone is a snapshot that goes its own way.
@@ -77,7 +77,7 @@ impl Bench {
 
     /// Sends a word from a unit to a group, and answers the message's number. A hop is made, to the group's primary: the last of
     /// [`hops`](Bench::hops). Refused, in this order: 12, 13, 14, 15.
-    pub fn send(&mut self, source: u16, group: u16, word: u16) -> Result<u16, Refusal> {
+    pub fn send(&mut self, source: u16, group: u16, word: u32) -> Result<u16, Refusal> {
         let step = live::send(self.totals, source, group, word, &mut self.lists());
         self.keep(step).map(|reply| reply.value)
     }
@@ -123,8 +123,9 @@ impl Bench {
     /// The message of a number; none where it was not sent.
     pub fn message(&self, number: u16) -> Option<Message> {
         let at = usize::from(number.checked_sub(1)?);
-        let field = |column| self.messages[column * MESSAGES + at] as u16;
-        (number <= self.totals.sent).then(|| Message { source: field(0), group: field(1), word: field(2) })
+        let field = |column| self.messages[column * MESSAGES + at];
+        let message = || Message { source: field(0) as u16, group: field(1) as u16, word: field(2) };
+        (number <= self.totals.sent).then(message)
     }
 
     fn lists(&mut self) -> Lists<'_> {

@@ -95,7 +95,7 @@ pub struct ReadAnswer {
 
 /// Reads a bench file into a content and an event list, of at least [`EVENTS`] numbers: of a send source+1, group and word; of an arrival
 /// 0, hop and 0. Refused: 1; 2 to 9.
-pub fn read(file: &[u8], events: &mut [u16], content: &mut Content) -> Result<ReadAnswer, Refusal> {
+pub fn read(file: &[u8], events: &mut [u32], content: &mut Content) -> Result<ReadAnswer, Refusal> {
     let mut answer = [0; 3];
     // SAFETY: pointers with lengths come from slices, the others are references to arrays of the header's lengths; those written to are
     // borrowed mutably, and the fields of `content` do not overlap.
@@ -116,7 +116,7 @@ pub fn read(file: &[u8], events: &mut [u16], content: &mut Content) -> Result<Re
 }
 
 /// Writes the bench file that was read at the start of `out`, of at least [`FILE`] bytes, and answers its length. Refused: 1.
-pub fn write(content: &Content, events: &[u16], out: &mut [u8]) -> Result<usize, Refusal> {
+pub fn write(content: &Content, events: &[u32], out: &mut [u8]) -> Result<usize, Refusal> {
     let mut answer = [0; 3];
     // SAFETY: pointers with lengths come from slices, the others are references to arrays of the header's lengths; `out` and `answer` are
     // borrowed mutably, so nothing overlaps them.

@@ -162,7 +162,7 @@ pub fn open(units: usize, groups: &[u32], count: usize, parents: &[u8], lists: &
 }
 
 /// Sends a word to a group: message and first hop are recorded. It uses all lists but gauges and book. Refused: 1, 12, 13, 14, 15.
-pub fn send(totals: Totals, source: u16, group: u16, word: u16, lists: &mut Lists) -> Step {
+pub fn send(totals: Totals, source: u16, group: u16, word: u32, lists: &mut Lists) -> Step {
     // SAFETY: every pointer comes from a slice that is borrowed mutably, with its length, so nothing overlaps it.
     unsafe { lend!(scrollcairn_send(totals, source, group, word), lists: tables, messages, pairs, hops) }
 }

@@ -61,7 +61,7 @@ fn p8_read_and_written() {
 #[test]
 fn p8_live() {
     let mut bench = bench_c();
-    assert_eq!((bench.send(3, 0, 500), bench.send(1, 2, 600)), (Ok(1), Ok(2)));
+    assert_eq!((bench.send(3, 0, 500), bench.send(1, 2, u32::MAX)), (Ok(1), Ok(2)));
     assert!(!bench.is_at_rest());
     use Arrival::*;
     let arrivals = [(0, Taken(1)), (0, Repeat), (1, Taken(1)), (2, Taken(1)), (4, Held), (4, Repeat), (3, Taken(2))];
@@ -77,7 +77,7 @@ fn p8_live() {
     assert_eq!(bench.totals(), Totals { made: 5, taken: 5, sent: 2, routed: 5 });
     let last = Hop { sender: 2, receiver: 3, sequence: 2, message: 1, state: Hop::TAKEN };
     assert_eq!((bench.hops().len(), bench.hops()[4]), (5, last));
-    let message = Message { source: 1, group: 2, word: 600 };
+    let message = Message { source: 1, group: 2, word: u32::MAX };
     assert_eq!((bench.message(2), bench.message(0), bench.message(3)), (Some(message), None, None));
 }
 

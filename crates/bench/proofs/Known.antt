@@ -145,7 +145,7 @@ module _ {M : Type 1} (𝓤 : URA M) (H : Heap 𝓤) (A : Atoms 𝓤) where
   abbrev pub send-callee : RelationalCallee 𝓤 H A
   send-callee =
       promising 𝓤 H A 1 (value B by-bench ∷ value u16 (by-uint w16) ∷ value u16 (by-uint w16) ∷
-      value u16 (by-uint w16) ∷ lent 0 tt R ∷ [])
+      value u32 (by-uint w32) ∷ lent 0 tt R ∷ [])
       Sent.the-row by-sent
       (λ d r es. SendPromise (listsOf (d .0)) (d .1 .0) (d .1 .1 .0) (d .1 .1 .1 .0) (d .1 .1 .1 .1 .0) (r .reply) (listsOf (r .bench))
       (es .0))

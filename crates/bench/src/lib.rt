@@ -235,7 +235,7 @@ impl Bench {
     }
 
     // Sends a message from a source to a group.
-    pub fn send(self, source: u16, group: u16, word: u16, hops: &mut [model::Hop]) -> Sent
+    pub fn send(self, source: u16, group: u16, word: u32, hops: &mut [model::Hop]) -> Sent
         ensures { λ r. ⌜ SendPromise (listsOf self) source group word (now (hops .entry)) (r .reply) (listsOf (r .bench))
             (now (hops .exit)) ⌝ }
     {

@@ -228,7 +228,7 @@ module _ {M : Type 1} (𝓤 : URA M) (H : Heap 𝓤) (Θ : Atoms 𝓤) where
 
   abbrev pub finished-send-callee : Callee 𝓤 H Θ
   finished-send-callee =
-      stating 𝓤 H Θ 2 (value T by-totals ∷ value u16 (by-uint w16) ∷ value u16 (by-uint w16) ∷ value u16 (by-uint w16) ∷
+      stating 𝓤 H Θ 2 (value T by-totals ∷ value u16 (by-uint w16) ∷ value u16 (by-uint w16) ∷ value u32 (by-uint w32) ∷
       relayed 0 tt u32 (by-uint w32) ∷ lent 1 tt u32 ∷ []) Sent.the-row by-sent result-and-list
       (λ d. sentAs (d .0) (d .1 .1 .1 .1 .0) (d .1 .1 .0))
       (λ d. (recordedMessages (d .0) (d .1 .0) (d .1 .1 .0) (d .1 .1 .1 .0) (d .1 .1 .1 .1 .1 .0), tt))
@@ -247,14 +247,14 @@ module _ {M : Type 1} (𝓤 : URA M) (H : Heap 𝓤) (Θ : Atoms 𝓤) where
 
   abbrev pub send-callee : RelationalCallee 𝓤 H Θ
   send-callee =
-      promising 𝓤 H Θ 4 (value T by-totals ∷ value u16 (by-uint w16) ∷ value u16 (by-uint w16) ∷ value u16 (by-uint w16) ∷
+      promising 𝓤 H Θ 4 (value T by-totals ∷ value u16 (by-uint w16) ∷ value u16 (by-uint w16) ∷ value u32 (by-uint w32) ∷
       relayed 0 tt u32 (by-uint w32) ∷ lent 1 tt u32 ∷ lent 2 tt Grid ∷ lent 3 tt R ∷ []) Sent.the-row by-sent
       (λ d r es. let l = d .1 .1 .1 .1 in SendSaid (d .0) (d .1 .0) (d .1 .1 .0) (d .1 .1 .1 .0) (l .0) (l .1 .0) (l .1 .1 .0)
       (l .1 .1 .1 .0) r es)
 
   abbrev pub send-shown-callee : RelationalCallee 𝓤 H Θ
   send-shown-callee =
-      promising 𝓤 H Θ 4 (value T by-totals ∷ value u16 (by-uint w16) ∷ value u16 (by-uint w16) ∷ value u16 (by-uint w16) ∷
+      promising 𝓤 H Θ 4 (value T by-totals ∷ value u16 (by-uint w16) ∷ value u16 (by-uint w16) ∷ value u32 (by-uint w32) ∷
       shown 0 tt u32 ∷ lent 1 tt u32 ∷ lent 2 tt Grid ∷ lent 3 tt R ∷ []) Sent.the-row by-sent
       (λ d r es. let l = d .1 .1 .1 .1 in SendSaid (d .0) (d .1 .0) (d .1 .1 .0) (d .1 .1 .1 .0) (l .0) (l .1 .0) (l .1 .1 .0)
       (l .1 .1 .1 .0) r es)

@@ -99,7 +99,7 @@ fn first_hop(t: Totals, source: u16, group: u16, sequence: u16, tables: &[u32]) 
 }
 
 // The message is recorded.
-fn record_message(t: Totals, source: u16, group: u16, word: u16, messages: &mut [u32])
+fn record_message(t: Totals, source: u16, group: u16, word: u32, messages: &mut [u32])
     ensures { λ _. ⌜ now (messages .exit) ≡ recordedMessages t source group word (now (messages .entry)) ⌝ }
 {
     let at = t.sent as usize;
@@ -117,7 +117,7 @@ fn record_message(t: Totals, source: u16, group: u16, word: u16, messages: &mut 
         at,
         group as u32,
     );
-    columns::set_number(messages, Messages::WORDS, Limits::MESSAGES, at, word as u32);
+    columns::set_number(messages, Messages::WORDS, Limits::MESSAGES, at, word);
 }
 
 // The hop to the group's primary is counted: its number among the hops of its pair.
@@ -152,7 +152,7 @@ fn finished(
     t: Totals,
     source: u16,
     group: u16,
-    word: u16,
+    word: u32,
     tables: &[u32],
     messages: &mut [u32],
 ) -> Sent
@@ -173,7 +173,7 @@ pub fn send(
     t: Totals,
     source: u16,
     group: u16,
-    word: u16,
+    word: u32,
     tables: &[u32],
     messages: &mut [u32],
     pairs: &mut [[[u16; Limits::UNITS]; Limits::UNITS]],

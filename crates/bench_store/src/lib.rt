@@ -5,7 +5,7 @@ pub mod columns;
 pub mod counts;
 
 ghost use mathlib.Core.Path.{_≡_};
-ghost use Rattle.bench_store.specs.Values.{plus as plusOf, byte as byteOf};
+ghost use Rattle.bench_store.specs.Values.{plus as plusOf, byte as byteOf, capped as cappedOf};
 
 // Document 01's limits. This is their one home: all code of the bench reads them here.
 pub struct Limits {}
@@ -30,6 +30,16 @@ pub fn plus(a: u16, b: u16) -> u16
     let sum = a as u32 + b as u32;
     if sum < 65536 {
         return sum as u16;
+    }
+    65535
+}
+
+// A number in 16 bits; 65,535 for every greater one.
+pub fn capped(n: u32) -> u16
+    ensures { λ r. ⌜ r ≡ cappedOf n ⌝ }
+{
+    if n < 65536 {
+        return n as u16;
     }
     65535
 }

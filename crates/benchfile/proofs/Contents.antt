@@ -67,7 +67,7 @@ numbers-good : (es : List Event) (rest : List ℕ) (k : ℕ) → k < length es �
 unfolding numbersOf eventNumbers
 numbers-good [] rest k h g = absurd (not-suc-le-zero h)
 numbers-good (Send s a w ∷ es) rest zero h g = (suc-le-suc (g .0), g .1, g .2, inl (suc-le-suc zero-le))
-numbers-good (Arrive b ∷ es) rest zero h g = (zero-lt-suc 65535, g, zero-lt-suc 65535, inr (refl, refl))
+numbers-good (Arrive b ∷ es) rest zero h g = (zero-lt-suc 65535, g, zero-lt-suc 4294967295, inr (refl, refl))
 numbers-good (Send s a w ∷ es) rest (suc k) h g =
     subst (λ (T : Type 0). T) (sym (behind GoodNumbers (suc s) a w (numbersOf es ++ rest) k))
     (numbers-good es rest k (le-of-suc-le-suc h) g)

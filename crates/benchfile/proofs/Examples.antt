@@ -2,7 +2,7 @@
 use mathlib.Core.Path.{_≡_, refl}
 use mathlib.Core.List.{List, [], _∷_}
 use Prim.Native.Nat.{ℕ}
-use Rattle.text.specs.Text.{isBad, digit, number, decimalWithin, decimal, inFront, split, join, startsWith, after, isWord, some}
+use Rattle.text.specs.Text.{digit, number, decimalWithin, decimal, inFront, split, join, startsWith, after, isWord, some}
 use Rattle.sets.specs.Sets.{member, including, single, union}
 use Rattle.lines.specs.Lines.{refuse, unitsKey, groupsKey, groupKey, parentsKey, sendKey, arriveKey, buildWord, rootWord, commas}
 use Rattle.lines.specs.Lines.{numbersIn, countIn, countFault, unitsFault, groupsFault, countLine, risesFrom, groupIn, groupFault}
@@ -10,19 +10,20 @@ use Rattle.lines.specs.Lines.{membersFrom, groupLine, Drawn, entry, entriesIn, 
 use Rattle.lines.specs.Lines.{Send, Arrive, badSend, eventFault, eventIn, eventLine}
 use Rattle.benchfile.specs.File.{File, Refused, Good, next, step, finish, steps, readFile, linesOf, ended, textOf}
 
--- two units, a group of both, drawn; a send and an arrive
+-- two units, a group of both, drawn; a send of the largest word and an arrive
 abbrev pub good : List ℕ
 good =
     117 ∷ 110 ∷ 105 ∷ 116 ∷ 115 ∷ 61 ∷ 50 ∷ 10 ∷
     103 ∷ 114 ∷ 111 ∷ 117 ∷ 112 ∷ 115 ∷ 61 ∷ 49 ∷ 10 ∷
     103 ∷ 114 ∷ 111 ∷ 117 ∷ 112 ∷ 61 ∷ 48 ∷ 44 ∷ 49 ∷ 10 ∷
     112 ∷ 97 ∷ 114 ∷ 101 ∷ 110 ∷ 116 ∷ 115 ∷ 61 ∷ 45 ∷ 44 ∷ 48 ∷ 10 ∷
-    115 ∷ 101 ∷ 110 ∷ 100 ∷ 61 ∷ 49 ∷ 44 ∷ 48 ∷ 44 ∷ 54 ∷ 53 ∷ 53 ∷ 51 ∷ 53 ∷ 10 ∷
+    115 ∷ 101 ∷ 110 ∷ 100 ∷ 61 ∷ 49 ∷ 44 ∷ 48 ∷ 44 ∷
+    52 ∷ 50 ∷ 57 ∷ 52 ∷ 57 ∷ 54 ∷ 55 ∷ 50 ∷ 57 ∷ 53 ∷ 10 ∷
     97 ∷ 114 ∷ 114 ∷ 105 ∷ 118 ∷ 101 ∷ 61 ∷ 48 ∷ 10 ∷ []
 
 -- what it says
 abbrev pub goodFile : File
-goodFile = record { units = 2; groups = 3 ∷ []; parents = Drawn (255 ∷ 0 ∷ []); events = Send 1 0 65535 ∷ Arrive 0 ∷ [] }
+goodFile = record { units = 2; groups = 3 ∷ []; parents = Drawn (255 ∷ 0 ∷ []); events = Send 1 0 4294967295 ∷ Arrive 0 ∷ [] }
 
 -- `units=1` with CR LF: 4 at line 1
 abbrev pub crlf : List ℕ
@@ -62,6 +63,20 @@ source =
     112 ∷ 97 ∷ 114 ∷ 101 ∷ 110 ∷ 116 ∷ 115 ∷ 61 ∷ 45 ∷ 10 ∷
     115 ∷ 101 ∷ 110 ∷ 100 ∷ 61 ∷ 54 ∷ 53 ∷ 53 ∷ 51 ∷ 53 ∷ 44 ∷ 48 ∷ 44 ∷ 48 ∷ 10 ∷ []
 
+-- `send=0,0,4294967296`: 4 at line 4
+abbrev pub word : List ℕ
+word =
+    117 ∷ 110 ∷ 105 ∷ 116 ∷ 115 ∷ 61 ∷ 49 ∷ 10 ∷
+    103 ∷ 114 ∷ 111 ∷ 117 ∷ 112 ∷ 115 ∷ 61 ∷ 48 ∷ 10 ∷
+    112 ∷ 97 ∷ 114 ∷ 101 ∷ 110 ∷ 116 ∷ 115 ∷ 61 ∷ 45 ∷ 10 ∷
+    115 ∷ 101 ∷ 110 ∷ 100 ∷ 61 ∷ 48 ∷ 44 ∷ 48 ∷ 44 ∷
+    52 ∷ 50 ∷ 57 ∷ 52 ∷ 57 ∷ 54 ∷ 55 ∷ 50 ∷ 57 ∷ 54 ∷ 10 ∷ []
+
+-- `units=65536`: 4, and not 5, at line 1
+abbrev pub units65536 : List ℕ
+units65536 =
+    117 ∷ 110 ∷ 105 ∷ 116 ∷ 115 ∷ 61 ∷ 54 ∷ 53 ∷ 53 ∷ 51 ∷ 54 ∷ 10 ∷ []
+
 -- a doubled last LF: 3 at line 4
 abbrev pub doubled : List ℕ
 doubled =
@@ -81,10 +96,12 @@ pub record Examples : Type 0 where
   pub lowest-refused : readFile 9000 lowest ≡ Refused (6 ∷ 3 ∷ [])
   pub firstLineDecides-refused : readFile 9000 firstLineDecides ≡ Refused (7 ∷ 3 ∷ [])
   pub source-refused : readFile 9000 source ≡ Refused (4 ∷ 4 ∷ [])
+  pub word-refused : readFile 9000 word ≡ Refused (4 ∷ 4 ∷ [])
+  pub units65536-refused : readFile 9000 units65536 ≡ Refused (4 ∷ 1 ∷ [])
   pub doubled-refused : readFile 9000 doubled ≡ Refused (3 ∷ 4 ∷ [])
 
 pub examples : Examples
-unfolding isBad digit number decimalWithin decimal inFront split join startsWith after isWord some member including single union refuse
+unfolding digit number decimalWithin decimal inFront split join startsWith after isWord some member including single union refuse
     unitsKey groupsKey groupKey parentsKey sendKey arriveKey buildWord rootWord commas numbersIn countIn countFault
     unitsFault groupsFault countLine
     risesFrom groupIn groupFault membersFrom groupLine entry entriesIn parentOf parentsIn parentsFault parentText parentsLine badSend
@@ -100,5 +117,7 @@ examples = record {
   lowest-refused = refl;
   firstLineDecides-refused = refl;
   source-refused = refl;
+  word-refused = refl;
+  units65536-refused = refl;
   doubled-refused = refl;
 }

@@ -5,8 +5,7 @@ use mathlib.Core.Bool.{true, false}
 use mathlib.Core.Logic.{_⊎_}
 use mathlib.Core.List.{List}
 use lib.ListN.{length, getD}
-use Rattle.lines.specs.Lines.{Arrive}
-use Rattle.lines.specs.Good.{GoodGroup, GoodParents, GoodEvent}
+use Rattle.lines.specs.Good.{GoodGroup, GoodParents, GoodEvents}
 use Rattle.benchfile.specs.File.{File}
 use Rattle.benchfile.specs.declared.Content.{Content}
 
@@ -18,11 +17,11 @@ pub record GoodFile (F : File) : Type 0 where
   pub group : (i : ℕ) → i < length (F .groups) → GoodGroup (F .units) (getD (F .groups) i 0)
   pub parents : GoodParents (F .units) (F .parents)
   pub total : length (F .events) ≤ 3000
-  pub event : (k : ℕ) → k < length (F .events) → GoodEvent (getD (F .events) k (Arrive 0))
+  pub event : GoodEvents (F .events)
 
--- three numbers of an event: a send's, source+1 from 1 on; or 0, hop, 0
+-- three numbers of an event: a send's, source+1 from 1 on, group, word; or 0, hop, 0. A word is at most 4,294,967,295, the others 65,535
 abbrev pub GoodNumbers : (a b c : ℕ) → Type 0
-GoodNumbers a b c = (a < 65536) × (b < 65536) × (c < 65536) × ((1 ≤ a) ⊎ ((a ≡ 0) × (c ≡ 0)))
+GoodNumbers a b c = (a < 65536) × (b < 65536) × (c < 4294967296) × ((1 ≤ a) ⊎ ((a ≡ 0) × (c ≡ 0)))
 
 -- a well-formed content with its events: 1 to 32 units; at most 24 groups, none empty, all below the units, zeros past those that count;
 -- each parent a unit or a root, 255 past the units and everywhere for `build`; at most 3,000 events

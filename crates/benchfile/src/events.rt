@@ -15,7 +15,7 @@ pub struct Tally {
 }
 
 // Puts one number at a place; answers the next place. At the list's end nothing is put.
-fn put(list: &mut [u16], at: usize, n: u16) -> usize
+fn put(list: &mut [u32], at: usize, n: u32) -> usize
     ensures { λ r. ⌜ Written (n ∷ []) at (now (list .entry)) r (now (list .exit)) ⌝ }
 {
     if at < list.len() {
@@ -26,7 +26,7 @@ fn put(list: &mut [u16], at: usize, n: u16) -> usize
 }
 
 // Puts three numbers from a place on.
-fn put_three(list: &mut [u16], at: usize, a: u16, b: u16, c: u16) -> usize
+fn put_three(list: &mut [u32], at: usize, a: u32, b: u32, c: u32) -> usize
     ensures { λ r. ⌜ Written (a ∷ b ∷ c ∷ []) at (now (list .entry)) r (now (list .exit)) ⌝ }
 {
     let second = put(list, at, a);
@@ -35,7 +35,7 @@ fn put_three(list: &mut [u16], at: usize, a: u16, b: u16, c: u16) -> usize
 }
 
 // Reads the events at the start of the rest of a file: counts them, and puts their numbers into a list.
-fn read_events(rest: &[u8], kept: &mut [u16]) -> Tally
+fn read_events(rest: &[u8], kept: &mut [u32]) -> Tally
     ensures { λ r. ⌜ EventsRead (now (rest .entry)) r (NumbersPut (now (kept .entry)) (now (kept .exit))) ⌝ }
 {
     let mut at = 0;
@@ -70,7 +70,7 @@ fn lower(a: usize, b: usize) -> usize
 }
 
 // Puts the first so many numbers of a list at the start of another; answers the next place.
-fn copy(list: &mut [u16], from: &[u16], count: usize) -> usize
+fn copy(list: &mut [u32], from: &[u32], count: usize) -> usize
     ensures { λ r. ⌜ Written (take count (now (from .entry))) 0 (now (list .entry)) r (now (list .exit)) ⌝ }
 {
     let end = lower(count, lower(from.len(), list.len()));
@@ -84,7 +84,7 @@ fn copy(list: &mut [u16], from: &[u16], count: usize) -> usize
 
 // Reads the events at the start of the rest of a file and, where all lines are good, stores them. Meanwhile their numbers go to `kept`, a
 // list of at least 9,000 numbers.
-pub fn store(rest: &[u8], kept: &mut [u16], list: &mut [u16]) -> Tally
+pub fn store(rest: &[u8], kept: &mut [u32], list: &mut [u32]) -> Tally
     ensures { λ r. ⌜ EventsStored (now (rest .entry)) (now (kept .entry)) (now (list .entry)) r (now (list .exit)) ⌝ }
 {
     let tally = read_events(rest, kept);

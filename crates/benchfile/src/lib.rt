@@ -72,7 +72,7 @@ fn turned_away(reply: ReadReply) -> ReadAnswer
 
 // Reads a file. Its events go to the front of a list of at least 9,000 numbers, three for each: of a send source+1, group and word, of an
 // arrival 0, hop and 0. The rest of the list stays, and all of it where the file is turned away.
-pub fn read(file: &[u8], list: &mut [u16]) -> ReadAnswer
+pub fn read(file: &[u8], list: &mut [u32]) -> ReadAnswer
     ensures { λ r. ⌜ ReadPromise (now (file .entry)) (now (list .entry)) r (now (list .exit)) ⌝ }
 {
     if list.len() < 9000 {
@@ -86,7 +86,7 @@ pub fn read(file: &[u8], list: &mut [u16]) -> ReadAnswer
         return turned_away(fault_reply(head.fault, head.line));
     }
     let at = head.at;
-    let mut kept = [0u16; 9000];
+    let mut kept = [0u32; 9000];
     let tally = events::store(&file[at..], &mut kept, list);
     if tally.fault != 0 {
         return turned_away(fault_reply(tally.fault, head.line + tally.count as usize));
@@ -99,7 +99,7 @@ pub fn read(file: &[u8], list: &mut [u16]) -> ReadAnswer
 }
 
 // Writes a file to the front of a list of at least 32,768 bytes; the rest of the list stays. The events are those that `read` left.
-pub fn write(content: Content, list: &[u16], out: &mut [u8]) -> WriteReply
+pub fn write(content: Content, list: &[u32], out: &mut [u8]) -> WriteReply
     ensures { λ r. ⌜ WritePromise content (now (list .entry)) (now (out .entry)) r (now (out .exit)) ⌝ }
 {
     if list.len() < 9000 {

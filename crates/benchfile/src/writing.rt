@@ -39,7 +39,7 @@ fn put_groups(out: &mut [u8], at: usize, groups: [u32; 24], count: u8) -> usize
 }
 
 // The lines of the first so many events of a list, three numbers for each.
-fn put_events(out: &mut [u8], at: usize, list: &[u16], count: u16) -> usize
+fn put_events(out: &mut [u8], at: usize, list: &[u32], count: u16) -> usize
     ensures { λ r. ⌜ Written (ended (map eventLine (eventsFrom count (now (list .entry))))) at (now (out .entry)) r
         (now (out .exit)) ⌝ }
 {
@@ -58,14 +58,14 @@ fn put_events(out: &mut [u8], at: usize, list: &[u16], count: u16) -> usize
 }
 
 // All lines, from the list's start; answers how many bytes.
-pub fn put_file(content: Content, list: &[u16], out: &mut [u8]) -> usize
+pub fn put_file(content: Content, list: &[u32], out: &mut [u8]) -> usize
     ensures { λ r. ⌜ Written (textOf (fileOf content (now (list .entry)))) 0 (now (out .entry)) r (now (out .exit)) ⌝ }
 {
     let sets = content.groups;
     let parents = content.parents;
     let count = counted(content.count, sets);
-    let a = put_count(out, 0, b"units=", content.units as u16);
-    let b = put_count(out, a, b"groups=", count as u16);
+    let a = put_count(out, 0, b"units=", content.units as u32);
+    let b = put_count(out, a, b"groups=", count as u32);
     let c = put_groups(out, b, sets, content.count);
     let d = put_parents(out, c, content.build, parents, content.units);
     put_events(out, d, list, content.events)

@@ -33,7 +33,7 @@ fn plus(a: u64, b: u64) -> u64 {
 }
 
 // Reads the file so many times; the numbers written in all.
-fn reads(file: &[u8], list: &mut [u16], times: usize) -> u64 {
+fn reads(file: &[u8], list: &mut [u32], times: usize) -> u64 {
     let mut sum: u64 = 0;
     let mut i = 0;
     while i < times {
@@ -46,7 +46,7 @@ fn reads(file: &[u8], list: &mut [u16], times: usize) -> u64 {
 }
 
 // Reads the file, and writes it so many times; the bytes written in all.
-fn writes(file: &[u8], list: &mut [u16], out: &mut [u8], times: usize) -> u64 {
+fn writes(file: &[u8], list: &mut [u32], out: &mut [u8], times: usize) -> u64 {
     let answer = benchfile::read(file, list);
     let mut sum: u64 = 0;
     let mut i = 0;
@@ -65,12 +65,12 @@ fn print(name: &[u8], sum: u64) {
 }
 
 fn run_reads(file: &[u8]) {
-    let mut list = [0u16; 9000];
+    let mut list = [0u32; 9000];
     print(b"read ", reads(file, &mut list, 1000));
 }
 
 fn run_writes(file: &[u8]) {
-    let mut list = [0u16; 9000];
+    let mut list = [0u32; 9000];
     let mut out = [0u8; 32768];
     print(b"write ", writes(file, &mut list, &mut out, 1000));
 }

@@ -42,7 +42,7 @@ fn print_reply(reply: ReadReply) {
 }
 
 // Whether some number of the list is not 7, which all were before.
-fn changed(list: &[u16]) -> bool {
+fn changed(list: &[u32]) -> bool {
     let mut at = 0;
     while at < list.len() {
         if list[at] != 7 {
@@ -83,7 +83,7 @@ fn print_same(bytes: usize, same: bool) {
 }
 
 // Writes to so many bytes of a list, or to all where it has fewer.
-fn write_part(content: Content, list: &[u16], out: &mut [u8], bytes: usize) -> WriteReply {
+fn write_part(content: Content, list: &[u32], out: &mut [u8], bytes: usize) -> WriteReply {
     if out.len() < bytes {
         return benchfile::write(content, list, out);
     }
@@ -91,7 +91,7 @@ fn write_part(content: Content, list: &[u16], out: &mut [u8], bytes: usize) -> W
 }
 
 // Writes a content to a list of a length, and says whether the file came back.
-fn print_written(content: Content, list: &[u16], file: &[u8], bytes: usize) {
+fn print_written(content: Content, list: &[u32], file: &[u8], bytes: usize) {
     let mut out = [0u8; 40000];
     let reply = write_part(content, list, &mut out, bytes);
     match reply {
@@ -101,7 +101,7 @@ fn print_written(content: Content, list: &[u16], file: &[u8], bytes: usize) {
 }
 
 // Reads to so many numbers of a list, or to all where it has fewer.
-fn read_part(file: &[u8], list: &mut [u16], numbers: usize) -> ReadAnswer {
+fn read_part(file: &[u8], list: &mut [u32], numbers: usize) -> ReadAnswer {
     if list.len() < numbers {
         return benchfile::read(file, list);
     }
@@ -110,7 +110,7 @@ fn read_part(file: &[u8], list: &mut [u16], numbers: usize) -> ReadAnswer {
 
 // One line: the name, what `read` answers with a list of a length, and what `write` gives, or whether a refused call changed the list.
 fn tried(name: &[u8], file: &[u8], numbers: usize, bytes: usize) {
-    let mut list = [7u16; 9100];
+    let mut list = [7u32; 9100];
     let answer = read_part(file, &mut list, numbers);
     let reply = answer.reply;
     let content = answer.content;
@@ -144,7 +144,7 @@ fn good() {
     case(b"build", b"units=3\ngroups=1\ngroup=0,2\nparents=build\n");
     case(
         b"largest numbers",
-        b"units=32\ngroups=1\ngroup=31\nparents=build\nsend=65534,65535,65535\narrive=65535\n",
+        b"units=32\ngroups=1\ngroup=31\nparents=build\nsend=65534,65535,4294967295\narrive=65535\n",
     );
     lent(p8);
 }
@@ -205,6 +205,14 @@ fn bad_events() {
     case(
         b"send of four numbers",
         b"units=1\ngroups=0\nparents=-\nsend=0,0,0,0\n",
+    );
+    case(
+        b"word 4,294,967,296",
+        b"units=1\ngroups=0\nparents=-\nsend=0,0,4294967296\n",
+    );
+    case(
+        b"hop 65,536",
+        b"units=1\ngroups=0\nparents=-\narrive=65536\n",
     );
     case(b"arrive=-1", b"units=1\ngroups=0\nparents=-\narrive=-1\n");
 }

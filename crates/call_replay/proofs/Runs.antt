@@ -23,6 +23,7 @@ use Rattle.model.specs.Demand3.{Planned}
 use Rattle.model.specs.Claims.{Limits}
 use Rattle.model.proofs.Replies.{refuse-either}
 use Rattle.bench.specs.declared.Bench.{Bench}
+use Rattle.bench_store.specs.Values.{capped}
 use Rattle.bench.specs.Lists.{listsOf}
 use Rattle.bench_promises.specs.Replies.{LengthAnswer, LengthRefused, Length as LengthIs, sendAnswer, arriveAnswer, restAnswer}
 use Rattle.bench_promises.specs.Promises.{after, handedBack, lengthAnswer}
@@ -46,7 +47,7 @@ requestFor size q = requestOf size (q .kind) (q .a) (q .b) (q .c) (q .hops) (q .
 
 module _ (size : ℕ) where
   six : (l : List ℕ) → 6 ≤ length l → requestsOf size l ≡ requestFor size (requestIn l) ∷ requestsOf size (drop 6 l)
-  unfolding requestsOf requestFor requestIn
+  unfolding requestsOf requestFor requestIn capped
   six [] h = absurd (omega (arith, h))
   six (k ∷ []) h = absurd (omega (arith, h))
   six (k ∷ a ∷ []) h = absurd (omega (arith, h))

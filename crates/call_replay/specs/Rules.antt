@@ -35,7 +35,8 @@ requestOf book kind a b c n m =
     (cond (eqb kind 2) (Log a (min m book))
     (cond (eqb kind 3) (Length a (min m book)) (Rest (min n 2008)))))
 
--- six numbers each; fewer than six at the end are no call
+-- six numbers each, of 32 bits; a source, group, hop or unit above 65,535 is told as 65,535, which is none. Fewer than six at the end are
+-- no call
 unfoldable pub requestsOf : (book : ℕ) → List ℕ → List Request
 requestsOf book [] = []
 requestsOf book (k ∷ []) = []
@@ -43,7 +44,8 @@ requestsOf book (k ∷ a ∷ []) = []
 requestsOf book (k ∷ a ∷ b ∷ []) = []
 requestsOf book (k ∷ a ∷ b ∷ c ∷ []) = []
 requestsOf book (k ∷ a ∷ b ∷ c ∷ n ∷ []) = []
-requestsOf book (k ∷ a ∷ b ∷ c ∷ n ∷ m ∷ calls) = requestOf book k a b c n m ∷ requestsOf book calls
+requestsOf book (k ∷ a ∷ b ∷ c ∷ n ∷ m ∷ calls) =
+    requestOf book k (min a 65535) (min b 65535) c n m ∷ requestsOf book calls
 
 -- ---- the replies: three numbers each (c_answers/specs/Replies.antt)
 

@@ -6,6 +6,7 @@ use mathlib.Core.List.{List, _∷_, _++_}
 use lib.ListN.{length, getD, take, drop, replicate}
 use lib.Dec.{ltb, eqb}
 use Rattle.text.specs.Writing.{Written}
+use Rattle.bench_store.specs.Values.{capped}
 use Rattle.model.specs.declared.Hop.{Hop}
 use Rattle.bench_promises.specs.declared.replies.RestReply.{RestReply}
 use Rattle.bench_promises.specs.declared.replies.LogReply.{LogReply}
@@ -31,9 +32,16 @@ begunWith calls = record { left = length calls / 6; at = 0 }
 unfoldable pub isGoing : Progress → Bool
 isGoing p = not (eqb (p .left) 0)
 
--- the first call of a list
+-- the first call of a list; a unit, a group and a hop are read in 16 bits
 unfoldable pub requestIn : List ℕ → Request
-requestIn l = record { kind = getD l 0 0; a = getD l 1 0; b = getD l 2 0; c = getD l 3 0; hops = getD l 4 0; book = getD l 5 0 }
+requestIn l = record {
+  kind = getD l 0 0;
+  a = capped (getD l 1 0);
+  b = capped (getD l 2 0);
+  c = getD l 3 0;
+  hops = getD l 4 0;
+  book = getD l 5 0;
+}
 
 unfoldable pub requestAt : Progress → List ℕ → Request
 requestAt p calls = requestIn (drop (6 * (length calls / 6 - p .left)) calls)

@@ -59,7 +59,7 @@ fn run_call(bench: Bench, q: Request, hops: &mut [model::Hop], book: &mut [u16])
 // Runs the calls of a list, and puts their replies.
 fn run_calls(
     start: Bench,
-    calls: &[u16],
+    calls: &[u32],
     hops: &mut [model::Hop],
     book: &mut [u16],
     out: &mut [u16],
@@ -100,7 +100,7 @@ pub fn run_list(
     parents: [u8; Limits::UNITS],
     fresh_hops: usize,
     fresh_book: usize,
-    calls: &[u16],
+    calls: &[u32],
     book: &mut [u16],
     out: &mut [u16],
     records: &mut [u16],

@@ -63,7 +63,7 @@ pub fn run(
     parents: [u8; Limits::UNITS],
     fresh_hops: usize,
     fresh_book: usize,
-    calls: &[u16],
+    calls: &[u32],
     book: &mut [u16],
     hops: &mut [u16],
     bench: &mut [u32],

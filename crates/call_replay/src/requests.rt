@@ -5,15 +5,15 @@ ghost use Prim.Native.Nat.{_-_, min};
 ghost use lib.ListN.{getD};
 ghost use Rattle.call_replay.specs.Steps.{begunWith, isGoing, requestAt, isSend, isArrive};
 
-// A call as it stands in the list.
+// A call as it stands in the list; `a` and `b` are 65,535 where a greater number stands there.
 pub struct Request {
-    pub kind: u16,
+    pub kind: u32,
     pub a: u16,
     pub b: u16,
-    pub c: u16,
+    pub c: u32,
     // how many hop records and log numbers it is lent, if there are as many
-    pub hops: u16,
-    pub book: u16,
+    pub hops: u32,
+    pub book: u32,
 }
 
 // How many calls are left, and the place after the replies put.
@@ -23,7 +23,7 @@ pub struct Progress {
 }
 
 // Before the first call.
-pub fn begun(calls: &[u16]) -> Progress
+pub fn begun(calls: &[u32]) -> Progress
     ensures { λ r. ⌜ r ≡ begunWith (now (calls .entry)) ⌝ }
 {
     Progress {
@@ -59,7 +59,7 @@ pub fn less(a: usize, b: usize) -> usize
 }
 
 // Number i of a list; 0 past its end.
-fn number_at(list: &[u16], i: usize) -> u16
+fn number_at(list: &[u32], i: usize) -> u32
     ensures { λ r. ⌜ r ≡ getD (now (list .entry)) i 0 ⌝ }
 {
     if i < list.len() {
@@ -69,15 +69,15 @@ fn number_at(list: &[u16], i: usize) -> u16
 }
 
 // The next call.
-pub fn request_at(p: Progress, calls: &[u16]) -> Request
+pub fn request_at(p: Progress, calls: &[u32]) -> Request
     ensures { λ r. ⌜ r ≡ requestAt p (now (calls .entry)) ⌝ }
 {
     let first = Sizes::CALL * less(calls.len() / Sizes::CALL, p.left);
     let rest = &calls[first..];
     Request {
         kind: number_at(rest, 0),
-        a: number_at(rest, 1),
-        b: number_at(rest, 2),
+        a: bench_store::capped(number_at(rest, 1)),
+        b: bench_store::capped(number_at(rest, 2)),
         c: number_at(rest, 3),
         hops: number_at(rest, 4),
         book: number_at(rest, 5),
@@ -108,7 +108,7 @@ pub fn second(q: Request) -> u16
     q.b
 }
 
-pub fn third(q: Request) -> u16
+pub fn third(q: Request) -> u32
     ensures { λ r. ⌜ r ≡ q .c ⌝ }
 {
     q.c

@@ -12,7 +12,7 @@ ghost use Rattle.lines.specs.Lines.{countLine, groupLine, parentText, parentsLi
 ghost use Rattle.line_writer.specs.Texts.{separator, memberTexts, parentTexts};
 
 // A key and a number.
-pub fn put_count(out: &mut [u8], at: usize, key: &[u8], n: u16) -> usize
+pub fn put_count(out: &mut [u8], at: usize, key: &[u8], n: u32) -> usize
     ensures { λ r. ⌜ Written (countLine (now (key .entry)) n ++ 10 ∷ []) at (now (out .entry)) r (now (out .exit)) ⌝ }
 {
     let value = put_text(out, at, key);
@@ -40,7 +40,7 @@ fn put_members(out: &mut [u8], at: usize, set: u32) -> usize
     while u < 32 {
         if sets::member(set, u) {
             let place = put_separator(out, next, first);
-            next = put_number(out, place, u as u16);
+            next = put_number(out, place, u as u32);
             first = false;
         }
         u += 1;
@@ -64,7 +64,7 @@ fn put_parent(out: &mut [u8], at: usize, parent: u8) -> usize
     if parent == 255 {
         return put(out, at, 45);
     }
-    put_number(out, at, parent as u16)
+    put_number(out, at, parent as u32)
 }
 
 // The parents of so many units, with commas between them.
@@ -99,7 +99,7 @@ pub fn put_parents(out: &mut [u8], at: usize, build: bool, parents: [u8; 32], un
 }
 
 // The three numbers of a send.
-fn put_send(out: &mut [u8], at: usize, source: u16, group: u16, word: u16) -> usize
+fn put_send(out: &mut [u8], at: usize, source: u32, group: u32, word: u32) -> usize
     ensures { λ r. ⌜ Written (decimal source ++ 44 ∷ decimal group ++ 44 ∷ decimal word) at (now (out .entry)) r
         (now (out .exit)) ⌝ }
 {
@@ -111,7 +111,7 @@ fn put_send(out: &mut [u8], at: usize, source: u16, group: u16, word: u16) -> us
 }
 
 // An event of three numbers.
-pub fn put_event(out: &mut [u8], at: usize, first: u16, second: u16, third: u16) -> usize
+pub fn put_event(out: &mut [u8], at: usize, first: u32, second: u32, third: u32) -> usize
     ensures { λ r. ⌜ Written (eventLine (eventOf first second third) ++ 10 ∷ []) at (now (out .entry)) r (now (out .exit)) ⌝ }
 {
     if first == 0 {

@@ -11,9 +11,9 @@ use native.Mathlib.Omega.{arith}
 use lib.ListN.{length, take, drop, length-drop}
 use lib.Seq.{length-take-le, take-all, take-add, drop-at}
 use lib.Dec.{eqb}
-use borrow.Author.Tests.{lt-ltb, le-ltb, le-leb, lt-leb, eq-eqb, ne-eqb, eqb-false}
+use borrow.Author.Tests.{lt-ltb, le-ltb, eq-eqb, ne-eqb, eqb-false}
 use Rattle.sets.proofs.Bools.{either}
-use Rattle.text.specs.Text.{isBad, split, startsWith, after}
+use Rattle.text.specs.Text.{split, startsWith, after}
 use Rattle.text.specs.Writing.{placeOf}
 use Rattle.text.proofs.Keys.{starts-length}
 use Rattle.text.proofs.Pieces.{place-le, piecesFrom, pieces-start, pieces-turn, pieces-end}
@@ -187,23 +187,22 @@ module _ (key rest : List ℕ) (end least most n : ℕ) (found : Found key rest 
   count-faulty = found-faulty (countFault key least most) (countIn key) rest key end found
 
   pub count-bad : 65535 < n → fieldAt (countFault key least most) (countIn key) rest ≡ noField 4
-  unfolding countFault refuse isBad
-  count-bad h = count-faulty 4 (simp (found .key-there, sym said, le-leb 65536 n (omega arith))) (eqb-false 4 0 refl)
+  unfolding countFault refuse
+  count-bad h = count-faulty 4 (simp (found .key-there, sym said, lt-ltb 65535 n h)) (eqb-false 4 0 refl)
 
   pub count-low : n ≤ 65535 → n < least → fieldAt (countFault key least most) (countIn key) rest ≡ noField 5
-  unfolding countFault refuse isBad
+  unfolding countFault refuse
   count-low h l =
-      count-faulty 5 (simp (found .key-there, sym said, lt-leb 65536 n (omega arith), lt-ltb n least l)) (eqb-false 5 0 refl)
+      count-faulty 5 (simp (found .key-there, sym said, le-ltb 65535 n h, lt-ltb n least l)) (eqb-false 5 0 refl)
 
   pub count-high : n ≤ 65535 → least ≤ n → most < n → fieldAt (countFault key least most) (countIn key) rest ≡ noField 5
-  unfolding countFault refuse isBad
+  unfolding countFault refuse
   count-high h l m =
-      count-faulty 5 (simp (found .key-there, sym said, lt-leb 65536 n (omega arith), le-ltb n least l, lt-ltb most n m))
-      (eqb-false 5 0 refl)
+      count-faulty 5 (simp (found .key-there, sym said, le-ltb 65535 n h, le-ltb n least l, lt-ltb most n m)) (eqb-false 5 0 refl)
 
   pub count-good : n ≤ 65535 → least ≤ n → n ≤ most
       → fieldAt (countFault key least most) (countIn key) rest ≡ record { fault = 0; used = end + 1; value = n }
-  unfolding countFault refuse isBad
+  unfolding countFault refuse
   count-good h l m =
       found-good (countFault key least most) (countIn key) rest key end found n
-      (simp (found .key-there, sym said, lt-leb 65536 n (omega arith), le-ltb n least l, le-ltb most n m)) said
+      (simp (found .key-there, sym said, le-ltb 65535 n h, le-ltb n least l, le-ltb most n m)) said

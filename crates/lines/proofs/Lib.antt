@@ -2,6 +2,7 @@ pub mod Drawings
 pub mod Ends
 pub mod Faults
 pub mod Folds
+pub mod Limits
 pub mod MemberLists
 pub mod Membership
 pub mod ParentTexts

@@ -10,7 +10,7 @@ use native.Mathlib.Omega.{arith}
 use lib.ListN.{length}
 use lib.Dec.{ltb, leb}
 use borrow.Author.Tests.{lt-ltb, le-ltb, le-leb, lt-leb, eqb-false}
-use Rattle.text.specs.Text.{isBad, after, some}
+use Rattle.text.specs.Text.{after, some}
 use Rattle.lines.specs.Lines.{refuse, groupKey, numbersIn, risesFrom, groupIn, groupFault}
 use Rattle.lines.specs.Fields.{firstLine, endAt, noField, fieldAt, noMembers, withMember, membersFault}
 use Rattle.lines.specs.declared.members.Members.{Members}
@@ -37,10 +37,10 @@ module _ (units : ℕ) where
   set-is (n ∷ ns) m = set-is ns (withMember units m n)
 
   fault-is : (ns : List ℕ) → membersFault (foldl (withMember units) noMembers ns)
-      ≡ refuse (some isBad ns) 4 (refuse (some (leb units) ns) 6 (refuse (not (risesFrom 0 ns)) 7 0))
+      ≡ refuse (some (ltb 65535) ns) 4 (refuse (some (leb units) ns) 6 (refuse (not (risesFrom 0 ns)) 7 0))
   unfolding membersFault withMember noMembers
   fault-is ns = rw (
-    flag-is (withMember units) (λ m. m .bad) isBad (λ m n. refl) ns noMembers,
+    flag-is (withMember units) (λ m. m .bad) (ltb 65535) (λ m n. refl) ns noMembers,
     flag-is (withMember units) (λ m. m .outside) (leb units) (λ m n. refl) ns noMembers,
     falls-is ns noMembers,
   )

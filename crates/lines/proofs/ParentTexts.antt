@@ -9,9 +9,9 @@ use native.Mathlib.Decide.{ℕ-discrete}
 use native.Mathlib.Omega.{arith}
 use lib.ListN.{length, getD, List·getD-map}
 use lib.Dec.{ltb, leb, eqb}
-use borrow.Author.Tests.{le-ltb, lt-leb, eq-eqb, ne-eqb, ltb-false}
+use borrow.Author.Tests.{le-ltb, eq-eqb, ne-eqb, ltb-false}
 use Rattle.sets.proofs.Bools.{either, not-true-false}
-use Rattle.text.specs.Text.{isBad, number, decimal, split, join, isWord, some}
+use Rattle.text.specs.Text.{number, decimal, split, join, isWord, some}
 use Rattle.text.proofs.Keys.{word-is, word-same}
 use Rattle.text.proofs.Numbers.{number-decimal, decimal-number, decimal-without}
 use Rattle.text.proofs.Pieces.{none-cons, Without, join-split}
@@ -43,14 +43,14 @@ unfolding rootWord some
 text-without c p h e = by-cases (ℕ-discrete p 255) (λ q. rw (text-root p q, e)) (λ q. rw (text-unit p q) (decimal-without c p h))
 
 entry-written : (t : List ℕ) → ltb 32 (entry t) ≡ false → parentText (parentOf (entry t)) ≡ t
-unfolding parentOf isBad
+unfolding parentOf
 entry-written t h = ⊎-elim
     (λ (w : isWord rootWord t ≡ true).
     ap (λ (e : ℕ). parentText (parentOf e)) (entry-root t w) ∙ text-root 255 refl ∙ sym (word-is rootWord t w))
     (λ (w : isWord rootWord t ≡ false).
     let e = entry-unit t w in let l : entry t ≤ 32 = ltb-false 32 (entry t) h
     in ap (λ (x : ℕ). parentText (parentOf x)) e ∙ text-unit (number t) (λ z. omega arith)
-    ∙ decimal-number t (lt-leb 65536 (number t) (omega arith)))
+    ∙ decimal-number 31 (omega arith) t (le-ltb 31 (number t) (omega arith)))
     (either (isWord rootWord t))
 
 -- a number is no root

@@ -14,7 +14,7 @@ use lib.Dec.{ltb, leb, eqb}
 use lib.Pow.{pow-mono}
 use borrow.Author.Tests.{le-ltb, lt-leb, eq-eqb, ltb-false, leb-false, eqb-true, not-false}
 use Rattle.sets.proofs.Bools.{either, or-none, not-true-false}
-use Rattle.text.specs.Text.{isBad, number, decimal, startsWith, after, isWord, some}
+use Rattle.text.specs.Text.{number, decimal, startsWith, after, isWord, some}
 use Rattle.text.proofs.Keys.{starts-append, after-append, word-is, word-same}
 use Rattle.text.proofs.Numbers.{number-decimal, decimal-number, decimal-without}
 use Rattle.text.proofs.Pieces.{Without, without-append}
@@ -36,20 +36,21 @@ unfolding countFault countLine countIn
 count-said key least most line h =
     let n = countIn key line in
     let a = refuse-none (not (startsWith key line)) 2 _ h in
-    let b = refuse-none (isBad n) 3 _ (a .1) in
+    let b = refuse-none (ltb 65535 n) 3 _ (a .1) in
     let c = or-none (ltb n least) (ltb most n) (refuse-none _ 4 0 (b .1) .0)
     in (
-      key-written key line (decimal n) (not-false (startsWith key line) (a .0)) (decimal-number (after key line) (b .0)),
+      key-written key line (decimal n) (not-false (startsWith key line) (a .0))
+          (decimal-number 65535 (omega arith) (after key line) (b .0)),
       ltb-false n least (c .0),
       ltb-false most n (c .1),
     )
 
-pub count-read : (key : List ℕ) (least most n : ℕ) → least ≤ n → n ≤ most → n < 65536
+pub count-read : (key : List ℕ) (least most n : ℕ) → least ≤ n → n ≤ most → n ≤ 65535
     → (countFault key least most (countLine key n) ≡ 0) × (countIn key (countLine key n) ≡ n)
-unfolding countFault countLine countIn isBad refuse
+unfolding countFault countLine countIn refuse
 count-read key least most n l m f =
-    let e : countIn key (countLine key n) ≡ n = ap number (after-append key (decimal n)) ∙ number-decimal n f
-    in (simp (e, starts-append key (decimal n), lt-leb 65536 n f, le-ltb n least l, le-ltb most n m), e)
+    let e : countIn key (countLine key n) ≡ n = ap number (after-append key (decimal n)) ∙ number-decimal n (omega arith)
+    in (simp (e, starts-append key (decimal n), le-ltb 65535 n f, le-ltb n least l, le-ltb most n m), e)
 
 pub count-fault-number : (key : List ℕ) (least most : ℕ) (line : List ℕ) → FaultNumber (countFault key least most line)
 unfolding countFault
@@ -66,19 +67,19 @@ three-numbers ns e =
       drop-of-length-le ns {i = 3} (omega arith),
     )
 
-no-bad-three : (a b c : ℕ) → a < 65536 → b < 65536 → c < 65536 → some isBad (a ∷ b ∷ c ∷ []) ≡ false
-unfolding some isBad
-no-bad-three a b c l m n = simp (lt-leb 65536 a l, lt-leb 65536 b m, lt-leb 65536 c n)
+no-bad-three : (a b c : ℕ) → a < 65535 → b < 65536 → c < 4294967296 → some (ltb 4294967295) (a ∷ b ∷ c ∷ []) ≡ false
+unfolding some
+no-bad-three a b c l m n = simp (lt-leb 4294967296 a (omega arith), lt-leb 4294967296 b (omega arith), lt-leb 4294967296 c n)
 
 -- the numbers of a good send
 record Three (ns : List ℕ) : Type 0 where
   are : ns ≡ getD ns 0 0 ∷ getD ns 1 0 ∷ getD ns 2 0 ∷ []
   source : getD ns 0 0 < 65535
   group : getD ns 1 0 < 65536
-  word : getD ns 2 0 < 65536
+  word : getD ns 2 0 < 4294967296
 
 good-send : (ns : List ℕ) → badSend ns ≡ false → Three ns
-unfolding badSend isBad
+unfolding badSend
 good-send ns h =
     let a = or-none (not (eqb (length ns) 3)) _ h in
     let b = or-none (leb 65535 (getD ns 0 0)) _ (a .1) in
@@ -87,7 +88,7 @@ good-send ns h =
       are = three-numbers ns (eqb-true (length ns) 3 (not-false _ (a .0)));
       source = leb-false 65535 (getD ns 0 0) (b .0);
       group = leb-false 65536 (getD ns 1 0) (c .0);
-      word = leb-false 65536 (getD ns 2 0) (c .1);
+      word = leb-false 4294967296 (getD ns 2 0) (c .1);
     }
 
 send-said : (line : List ℕ) → startsWith sendKey line ≡ true → badSend (numbersIn (after sendKey line)) ≡ false
@@ -96,19 +97,22 @@ unfolding eventLine eventIn
 send-said line s h =
     let v = after sendKey line in let t = good-send (numbersIn v) h in
     let ns = getD (numbersIn v) 0 0 ∷ getD (numbersIn v) 1 0 ∷ getD (numbersIn v) 2 0 ∷ [] in
-    let none : some isBad (numbersIn v) ≡ false = rw (t .are) (no-bad-three _ _ _ (omega arith) (t .group) (t .word))
+    let none : some (ltb 4294967295) (numbersIn v) ≡ false = rw (t .are) (no-bad-three _ _ _ (t .source) (t .group) (t .word))
     in simp s (
       key-written sendKey line (commas (map decimal ns)) s (ap (λ (l : List ℕ). commas (map decimal l)) (sym (t .are))
-          ∙ numbers-written v none),
+          ∙ numbers-written 4294967295 (omega arith) v none),
       (t .source, t .group, t .word),
     )
 
 arrive-said : (line : List ℕ) → startsWith sendKey line ≡ false → startsWith arriveKey line ≡ true
-    → isBad (number (after arriveKey line)) ≡ false
+    → ltb 65535 (number (after arriveKey line)) ≡ false
     → (eventLine (eventIn line) ≡ line) × GoodEvent (eventIn line)
-unfolding eventLine eventIn isBad
+unfolding eventLine eventIn
 arrive-said line n s h =
-    simp n (key-written arriveKey line _ s (decimal-number (after arriveKey line) h), leb-false 65536 (number (after arriveKey line)) h)
+    simp n (
+      key-written arriveKey line _ s (decimal-number 65535 (omega arith) (after arriveKey line) h),
+      leb-false 65536 (number (after arriveKey line)) h,
+    )
 
 pub event-said : (k : ℕ) (line : List ℕ) → eventFault k line ≡ 0 → (eventLine (eventIn line) ≡ line)
     × GoodEvent (eventIn line) × (k < 3000)
@@ -124,14 +128,16 @@ event-said k line h =
     in (r .0, r .1, c)
 
 pub event-read : (k : ℕ) (e : Event) → k < 3000 → GoodEvent e → (eventFault k (eventLine e) ≡ 0) × (eventIn (eventLine e) ≡ e)
-unfolding eventFault eventLine eventIn badSend isBad refuse startsWith sendKey arriveKey
+unfolding eventFault eventLine eventIn badSend refuse startsWith sendKey arriveKey
 event-read k (Send s g w) l (a, b, c) =
     let v = commas (decimal s ∷ decimal g ∷ decimal w ∷ []) in
     let e : numbersIn (after sendKey (sendKey ++ v)) ≡ s ∷ g ∷ w ∷ [] =
-    ap numbersIn (after-append sendKey v) ∙ numbers-read (s ∷ g ∷ w ∷ []) cons≢nil (no-bad-three s g w (omega arith) b c)
-    in (simp (e, lt-leb 65535 s a, lt-leb 65536 g b, lt-leb 65536 w c, lt-leb 3000 k l), simp e)
+    ap numbersIn (after-append sendKey v)
+    ∙ numbers-read 4294967295 (omega arith) (s ∷ g ∷ w ∷ []) cons≢nil (no-bad-three s g w a b c)
+    in (simp (e, lt-leb 65535 s a, lt-leb 65536 g b, lt-leb 4294967296 w c, lt-leb 3000 k l), simp e)
 event-read k (Arrive h) l b =
-    let e : number (after arriveKey (arriveKey ++ decimal h)) ≡ h = ap number (after-append arriveKey (decimal h)) ∙ number-decimal h b
+    let e : number (after arriveKey (arriveKey ++ decimal h)) ≡ h =
+    ap number (after-append arriveKey (decimal h)) ∙ number-decimal h (omega arith)
     in (simp (e, lt-leb 65536 h b, lt-leb 3000 k l), simp e)
 
 pub event-fault-number : (k : ℕ) (line : List ℕ) → FaultNumber (eventFault k line)
@@ -147,25 +153,26 @@ unfolding groupFault groupLine groupIn
 group-said n line f h =
     let v = after groupKey line in let ms = numbersIn v in
     let a = refuse-none (not (startsWith groupKey line)) 2 _ h in
-    let b = refuse-none (some isBad ms) 3 _ (a .1) in
+    let b = refuse-none (some (ltb 65535) ms) 3 _ (a .1) in
     let c = refuse-none (some (leb n) ms) 5 _ (b .1) in
     let r = not-false (risesFrom 0 ms) (refuse-none _ 6 0 (c .1) .0) in
     let w = none-from n 32 ms f (c .0) in let m = numbers-some v
     in (
       key-written groupKey line _ (not-false (startsWith groupKey line) (a .0))
-          (ap (λ (l : List ℕ). commas (map decimal l)) (list-again ms r w) ∙ numbers-written v (b .0)),
+          (ap (λ (l : List ℕ). commas (map decimal l)) (list-again ms r w) ∙ numbers-written 65535 (omega arith) v (b .0)),
       record { some = list-some ms (m .0) (m .1) (m .2) w; below = list-below n ms f (c .0) },
     )
 
 pub group-read : (n s : ℕ) → n ≤ 32 → GoodGroup n s → (groupFault n (groupLine s) ≡ 0) × (groupIn (groupLine s) ≡ s)
-unfolding groupFault groupLine groupIn isBad refuse
+unfolding groupFault groupLine groupIn refuse
 group-read n s f g =
     let ms = membersFrom 32 0 s in let v = commas (map decimal ms) in
     let again : foldl including 0 ms ≡ s = set-again s (lt-of-lt-of-le (g .below) (pow-mono f)) in
     let low : some (leb n) ms ≡ false = from-below n 32 0 s (g .below) in
-    let good : some isBad ms ≡ false = none-from n 65536 ms (omega arith) low in
+    let good : some (ltb 65535) ms ≡ false = none-from n 65536 ms (omega arith) low in
     let e : numbersIn (after groupKey (groupKey ++ v)) ≡ ms =
-    ap numbersIn (after-append groupKey v) ∙ numbers-read ms (λ z. g .some (sym again ∙ ap (foldl including 0) z)) good
+    ap numbersIn (after-append groupKey v)
+    ∙ numbers-read 65535 (omega arith) ms (λ z. g .some (sym again ∙ ap (foldl including 0) z)) good
     in (simp (starts-append groupKey v, e, good, low, from-rises 32 0 s), ap (foldl including 0) e ∙ again)
 
 pub group-fault-number : (n : ℕ) (line : List ℕ) → FaultNumber (groupFault n line)

@@ -8,9 +8,10 @@ use native.Mathlib.Nat.{lt-irrefl}
 use native.Mathlib.Numerals.{add-one}
 use native.Mathlib.Omega.{arith}
 use lib.ListN.{length, take, drop, getD}
+use lib.Dec.{ltb}
 use borrow.Author.Tests.{ne-eqb, eqb-false}
 use Rattle.sets.proofs.Bools.{either}
-use Rattle.text.specs.Text.{isBad, number, startsWith, after}
+use Rattle.text.specs.Text.{number, startsWith, after}
 use Rattle.text.specs.Writing.{placeOf}
 use Rattle.lines.specs.Lines.{refuse, numbersIn, sendKey, arriveKey, badSend, eventFault, eventIn, eventNumbers}
 use Rattle.lines.specs.Fields.{firstLine, faultAt, upTo, noNumbers, withNumber, noEvent, sendEvent, arriveEvent, eventAt}
@@ -79,9 +80,9 @@ module _ (rest : List ℕ) where
   line-arrive h s a =
       let hop = number (after arriveKey (firstLine rest)) in
       ⊎-elim
-      (λ (b : isBad hop ≡ true). event-faulty 4 (fault-is 4 h (simp (s, a, b))) (eqb-false 4 0 refl) ∙ sym (simp b))
-      (λ (b : isBad hop ≡ false). event-good 0 hop 0 (fault-is 0 h (simp (s, a, b))) (simp s) ∙ sym (simp b))
-      (either (isBad hop))
+      (λ (b : ltb 65535 hop ≡ true). event-faulty 4 (fault-is 4 h (simp (s, a, b))) (eqb-false 4 0 refl) ∙ sym (simp b))
+      (λ (b : ltb 65535 hop ≡ false). event-good 0 hop 0 (fault-is 0 h (simp (s, a, b))) (simp s) ∙ sym (simp b))
+      (either (ltb 65535 hop))
 
   pub event-send : (end : ℕ) → Found sendKey rest end
       → eventAt rest ≡ sendEvent (foldl withNumber noNumbers (numbersIn (take (end - 5) (drop 5 rest)))) (end + 1)

@@ -2,10 +2,11 @@
 use mathlib.Core.Path.{_≡_, refl, sym, ap, _∙_}
 use mathlib.Core.Bool.{Bool, true, false}
 use mathlib.Core.List.{List, [], _∷_, _++_, map, append-nil, map-id}
-use Prim.Native.Nat.{ℕ}
-use lib.Dec.{eqb}
-use borrow.Author.Tests.{leb-false}
-use Rattle.text.specs.Text.{isBad, number, decimal, split, join, startsWith, after, some}
+use Prim.Native.Nat.{ℕ, _<_}
+use native.Mathlib.Nat.{lt-of-le-of-lt}
+use lib.Dec.{ltb, eqb}
+use borrow.Author.Tests.{ltb-false}
+use Rattle.text.specs.Text.{noNumber, number, decimal, split, join, startsWith, after, some}
 use Rattle.text.proofs.Keys.{starts-split}
 use Rattle.text.proofs.Numbers.{number-decimal, decimal-number, decimal-without}
 use Rattle.text.proofs.Pieces.{none-parts, Without, AllWithout, none, more, split-some, join-split, split-join, join-without}
@@ -48,15 +49,19 @@ map-again f g key bad e (x ∷ xs) h = let p = none-parts bad (key x) (map key x
 
 -- ---- numbers
 
-pub numbers-written : (v : List ℕ) → some isBad (numbersIn v) ≡ false → commas (map decimal (numbersIn v)) ≡ v
-unfolding commas numbersIn
-numbers-written v h = ap (join 44) (map-again number decimal number isBad decimal-number (split 44 v) h) ∙ join-split 44 v
+-- within a limit of the reader's
+module _ (most : ℕ) (below : most < noNumber) where
+  pub numbers-written : (v : List ℕ) → some (ltb most) (numbersIn v) ≡ false → commas (map decimal (numbersIn v)) ≡ v
+  unfolding commas numbersIn
+  numbers-written v h =
+      ap (join 44) (map-again number decimal number (ltb most) (decimal-number most below) (split 44 v) h) ∙ join-split 44 v
 
-pub numbers-read : (ns : List ℕ) → (ns ≡ [] → ⊥) → some isBad ns ≡ false → numbersIn (commas (map decimal ns)) ≡ ns
-unfolding numbersIn isBad
-numbers-read ns f h =
-    ap (map number) (split-commas decimal ns (λ n. decimal-without 44 n refl) f)
-    ∙ map-again decimal number (λ n. n) isBad (λ n e. number-decimal n (leb-false 65536 n e)) ns (rw map-id h)
+  pub numbers-read : (ns : List ℕ) → (ns ≡ [] → ⊥) → some (ltb most) ns ≡ false → numbersIn (commas (map decimal ns)) ≡ ns
+  unfolding numbersIn
+  numbers-read ns f h =
+      ap (map number) (split-commas decimal ns (λ n. decimal-without 44 n refl) f)
+      ∙ map-again decimal number (λ n. n) (ltb most) (λ n e. number-decimal n (lt-of-le-of-lt (ltb-false most n e) below)) ns
+      (rw map-id h)
 
 -- a value has a first number
 pub numbers-some : (v : List ℕ) → (n : ℕ) × (ns : List ℕ) × (numbersIn v ≡ n ∷ ns)

@@ -6,7 +6,7 @@ use mathlib.Core.List.{List}
 use lib.ListN.{length, getD, take, set, replicate}
 use lib.Dec.{ltb, leb, eqb}
 use Rattle.sets.specs.Sets.{including}
-use Rattle.text.specs.Text.{isBad, startsWith}
+use Rattle.text.specs.Text.{startsWith}
 use Rattle.text.specs.Writing.{placeOf}
 use Rattle.lines.specs.Lines.{refuse, parentsFault, parentsIn, isBuild, parentsTable, eventFault, eventIn, eventNumbers}
 use Rattle.lines.specs.declared.fields.Field.{Field}
@@ -50,7 +50,7 @@ noMembers = record { bad = false; outside = false; falls = false; least = 0; set
 
 unfoldable pub withMember : ℕ → Members → ℕ → Members
 withMember units m n = record {
-  bad = m .bad || isBad n;
+  bad = m .bad || ltb 65535 n;
   outside = m .outside || leb units n;
   falls = m .falls || ltb n (m .least);
   least = suc n;
@@ -113,12 +113,12 @@ noEvent f = record { fault = f; used = 0; first = 0; second = 0; third = 0 }
 unfoldable pub sendEvent : Triple → ℕ → EventField
 sendEvent t n =
     cond (eqb (t .count) 3)
-    (cond (leb 65535 (t .first) || (isBad (t .second) || isBad (t .third))) (noEvent 4)
+    (cond (ltb 65534 (t .first) || (ltb 65535 (t .second) || ltb 4294967295 (t .third))) (noEvent 4)
     (record { fault = 0; used = n; first = suc (t .first); second = t .second; third = t .third }))
     (noEvent 4)
 
 unfoldable pub arriveEvent : ℕ → ℕ → EventField
-arriveEvent hop n = cond (isBad hop) (noEvent 4) (record { fault = 0; used = n; first = 0; second = hop; third = 0 })
+arriveEvent hop n = cond (ltb 65535 hop) (noEvent 4) (record { fault = 0; used = n; first = 0; second = hop; third = 0 })
 
 unfoldable pub eventAt : List ℕ → EventField
 eventAt rest =

@@ -1,3 +1,4 @@
 pub mod Lines
 pub mod Good
+pub mod Limits
 pub mod Fields

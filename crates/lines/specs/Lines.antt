@@ -8,7 +8,7 @@ use lib.ListN.{length, getD}
 use lib.Dec.{ltb, leb, eqb}
 use Rattle.sets.specs.Sets.{member, including}
 use Rattle.layout.specs.Tables.{tabulate}
-use Rattle.text.specs.Text.{isBad, number, decimal, split, join, startsWith, after, isWord, some}
+use Rattle.text.specs.Text.{number, decimal, split, join, startsWith, after, isWord, some}
 
 -- the refusal where the test says so, else the rest
 unfoldable pub refuse : {A : Type 0} → Bool → A → A → A
@@ -65,7 +65,7 @@ countIn key line = number (after key line)
 unfoldable pub countFault : List ℕ → ℕ → ℕ → List ℕ → ℕ
 countFault key least most line =
     let n = countIn key line in
-    refuse (not (startsWith key line)) 3 (refuse (isBad n) 4 (refuse (ltb n least || ltb most n) 5 0))
+    refuse (not (startsWith key line)) 3 (refuse (ltb 65535 n) 4 (refuse (ltb n least || ltb most n) 5 0))
 
 unfoldable pub unitsFault : List ℕ → ℕ
 unitsFault = countFault unitsKey 1 32
@@ -92,7 +92,7 @@ unfoldable pub groupFault : ℕ → List ℕ → ℕ
 groupFault n line =
     let ms = numbersIn (after groupKey line) in
     refuse (not (startsWith groupKey line)) 3
-    (refuse (some isBad ms) 4 (refuse (some (leb n) ms) 6 (refuse (not (risesFrom 0 ms)) 7 0)))
+    (refuse (some (ltb 65535) ms) 4 (refuse (some (leb n) ms) 6 (refuse (not (risesFrom 0 ms)) 7 0)))
 
 -- the members of s from u on, k numbers being looked at
 unfoldable pub membersFrom : ℕ → ℕ → ℕ → List ℕ
@@ -123,6 +123,7 @@ parentOf (suc p) = p
 unfoldable pub parentsIn : List ℕ → Parents
 parentsIn line = let value = after parentsKey line in cond (isWord buildWord value) Build (Drawn (map parentOf (entriesIn value)))
 
+-- an entry is at most 65,536, the parent's number at most 65,535
 unfoldable pub parentsFault : ℕ → List ℕ → ℕ
 parentsFault n line =
     let value = after parentsKey line in
@@ -157,14 +158,14 @@ pub data Event : Type 0 where
   Send : (source group word : ℕ) → Event
   Arrive : (hop : ℕ) → Event
 
--- badly written: not three numbers, or source 65,535
+-- badly written: not three numbers, or one above its limit: a source 65,534, a group 65,535, a word 4,294,967,295
 unfoldable pub badSend : List ℕ → Bool
-badSend ns = not (eqb (length ns) 3) || (leb 65535 (getD ns 0 0) || (isBad (getD ns 1 0) || isBad (getD ns 2 0)))
+badSend ns = not (eqb (length ns) 3) || (ltb 65534 (getD ns 0 0) || (ltb 65535 (getD ns 1 0) || ltb 4294967295 (getD ns 2 0)))
 
 unfoldable pub eventFault : ℕ → List ℕ → ℕ
 eventFault k line =
     refuse (not (startsWith sendKey line || startsWith arriveKey line)) 3
-    (refuse (cond (startsWith sendKey line) (badSend (numbersIn (after sendKey line))) (isBad (number (after arriveKey line)))) 4
+    (refuse (cond (startsWith sendKey line) (badSend (numbersIn (after sendKey line))) (ltb 65535 (number (after arriveKey line)))) 4
     (refuse (leb 3000 k) 9 0))
 
 unfoldable pub eventIn : List ℕ → Event

@@ -41,7 +41,7 @@ fn undrawn(fault: u8, used: usize, build: bool) -> Drawing
 }
 
 // An entry: 0 for a root, else one more than the parent's number.
-fn entry(text: &[u8]) -> u32
+fn entry(text: &[u8]) -> u64
     ensures { λ r. ⌜ r ≡ entryOf (now (text .entry)) ⌝ }
 {
     if is_word(text, b"-") {
@@ -51,7 +51,7 @@ fn entry(text: &[u8]) -> u32
 }
 
 // The parent of an entry as a byte; 255 for a root, and for what does not fit.
-fn parent(entry: u32) -> u8
+fn parent(entry: u64) -> u8
     ensures { λ r. ⌜ r ≡ parentByte entry ⌝ }
 {
     if entry == 0 {
@@ -87,14 +87,14 @@ fn with_parent(parents: [u8; 32], at: usize, p: u8) -> [u8; 32]
 }
 
 // One entry more, of so many units.
-fn with_entry(units: u8, entries: Entries, e: u32) -> Entries
+fn with_entry(units: u8, entries: Entries, e: u64) -> Entries
     ensures { λ r. ⌜ r ≡ withEntry units entries e ⌝ }
 {
     let old = entries.parents;
     let parents = with_parent(old, entries.count, parent(e));
     Entries {
         bad: either(entries.bad, 65536 < e),
-        outside: either(entries.outside, (units as u32) < e),
+        outside: either(entries.outside, (units as u64) < e),
         count: counted(256, entries.count),
         parents,
     }

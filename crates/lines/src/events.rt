@@ -14,17 +14,17 @@ ghost use Rattle.lines.specs.Fields.{noNumbers, withNumber, eventAt, sen
 pub struct EventField {
     pub fault: u8,
     pub used: usize,
-    pub first: u16,
-    pub second: u16,
-    pub third: u16,
+    pub first: u32,
+    pub second: u32,
+    pub third: u32,
 }
 
 // What the numbers of a send so far say: how many there are, counted to 4, and the first three.
 pub struct Triple {
     pub count: usize,
-    pub first: u32,
-    pub second: u32,
-    pub third: u32,
+    pub first: u64,
+    pub second: u64,
+    pub third: u64,
 }
 
 // A faulty line.
@@ -53,7 +53,7 @@ fn none() -> Triple
 }
 
 // One number more.
-fn with_number(triple: Triple, n: u32) -> Triple
+fn with_number(triple: Triple, n: u64) -> Triple
     ensures { λ r. ⌜ r ≡ withNumber triple n ⌝ }
 {
     let count = triple.count;
@@ -87,36 +87,36 @@ fn send(t: Triple, used: usize) -> EventField
     if t.count != 3 {
         return faulty(4);
     }
-    if 65535 <= t.first {
+    if 65534 < t.first {
         return faulty(4);
     }
-    if 65536 <= t.second {
+    if 65535 < t.second {
         return faulty(4);
     }
-    if 65536 <= t.third {
+    if 4294967295 < t.third {
         return faulty(4);
     }
     EventField {
         fault: 0,
         used,
-        first: (t.first + 1) as u16,
-        second: t.second as u16,
-        third: t.third as u16,
+        first: (t.first + 1) as u32,
+        second: t.second as u32,
+        third: t.third as u32,
     }
 }
 
 // What the number of an arrive says: 0, hop, 0.
-fn arrive(hop: u32, used: usize) -> EventField
+fn arrive(hop: u64, used: usize) -> EventField
     ensures { λ r. ⌜ r ≡ arriveEvent hop used ⌝ }
 {
-    if 65536 <= hop {
+    if 65535 < hop {
         return faulty(4);
     }
     EventField {
         fault: 0,
         used,
         first: 0,
-        second: hop as u16,
+        second: hop as u32,
         third: 0,
     }
 }

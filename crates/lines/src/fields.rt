@@ -36,7 +36,7 @@ pub fn line_end(rest: &[u8], key: &[u8]) -> usize
 }
 
 // A key and a number from `least` to `most`.
-fn count(rest: &[u8], key: &[u8], least: u32, most: u32) -> Field
+fn count(rest: &[u8], key: &[u8], least: u64, most: u64) -> Field
     ensures { λ r. ⌜ r ≡ fieldAt (countFault (now (key .entry)) least most) (countIn (now (key .entry))) (now (rest .entry)) ⌝ }
 {
     let end = line_end(rest, key);
@@ -57,7 +57,7 @@ fn count(rest: &[u8], key: &[u8], least: u32, most: u32) -> Field
     Field {
         fault: 0,
         used: end + 1,
-        value: n,
+        value: n as u32,
     }
 }
 

@@ -27,7 +27,7 @@ fn either(a: bool, b: bool) -> bool
 }
 
 // One of two numbers.
-fn pick(test: bool, a: u32, b: u32) -> u32
+fn pick(test: bool, a: u64, b: u64) -> u64
     ensures { λ r. ⌜ r ≡ cond test a b ⌝ }
 {
     if test {

@@ -7,6 +7,8 @@ use text::reading::find;
 use text::reading::number;
 ghost use mathlib.Core.Path.{_≡_};
 ghost use mathlib.Core.List.{foldl};
+ghost use Prim.Native.Nat.{_≤_};
+ghost use Rattle.text.specs.Text.{noNumber};
 ghost use Rattle.lines.specs.Lines.{numbersIn, groupFault, groupIn};
 ghost use Rattle.lines.specs.Fields.{noMembers, withMember, membersFault, fieldAt};
 
@@ -34,14 +36,15 @@ fn none() -> Members
 }
 
 // One member more, of so many units.
-fn with_member(units: u8, members: Members, n: u32) -> Members
+fn with_member(units: u8, members: Members, n: u64) -> Members
+    requires { ⌜ n ≤ noNumber ⌝ }
     ensures { λ r. ⌜ r ≡ withMember units members n ⌝ }
 {
     Members {
-        bad: either(members.bad, 65536 <= n),
-        outside: either(members.outside, units as u32 <= n),
-        falls: either(members.falls, (n as u64) < members.least),
-        least: n as u64 + 1,
+        bad: either(members.bad, 65535 < n),
+        outside: either(members.outside, units as u64 <= n),
+        falls: either(members.falls, n < members.least),
+        least: n + 1,
         set: sets::including(members.set, n as usize),
     }
 }

@@ -144,6 +144,9 @@ module _ (L : Ledger) (ms : List Message) (hs : List Hop) (ls : List (List ℕ))
   log-mail : (u m : ℕ) → In m (logs u) → In m (downFrom (length ms))
   log-mail u m i = subst (λ (l : List ℕ). In m l) (X .mails) (taken-mail S (X .flow .legal) u (log-in u m i .0))
 
+  log-number : (u m : ℕ) → In m (logs u) → (1 ≤ m) × (m ≤ length ms)
+  log-number u m i = in-down (length ms) (log-mail u m i)
+
   -- ---- order
 
   somewhere : (a b : ℕ) → BeforeSomewhere logs a b → Earlier H a b
@@ -222,7 +225,8 @@ module _ (L : Ledger) (ms : List Message) (hs : List Hop) (ls : List (List ℕ))
     messages = K .few;
     hops = few-hops;
     routes = K .room;
-    log = λ u. le-trans (distinct-length (length ms) (log-once u) (λ m i. in-down (length ms) (log-mail u m i))) (K .few);
+    log = λ u. le-trans (distinct-length (length ms) (log-once u) (log-number u)) (K .few);
+    logged = log-number;
     units = λ u past. no-elements (logs u) (λ m i. outside u m past i);
     records = record-within (le-trans few-hops (K .room));
   }

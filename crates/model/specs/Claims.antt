@@ -10,7 +10,7 @@ use Rattle.model.specs.declared.Message.{Message}
 use Rattle.model.specs.Network.{Plan, routeSizeOf, Network, hopAt, planInUse, messagesOf, hopsOf, logOf, isOut}
 use Rattle.model.specs.Rules.{Answer, Refused, Sent, Repeat, Held, Taken, routed, rising, lowestUntaken, isHeldAt}
 use Rattle.model.specs.Calls.{Call, Answered, answered}
-use Rattle.model.specs.Demand3.{sent}
+use Rattle.model.specs.Demand3.{In, sent}
 
 -- ---- limits
 
@@ -28,6 +28,8 @@ pub record Limits (W : Network) : Type 0 where
   pub hops : length (hopsOf W) ≤ routed W
   pub routes : routed W ≤ 2000
   pub log : (u : ℕ) → length (logOf u W) ≤ 200
+  -- a log holds numbers of messages sent
+  pub logged : (u m : ℕ) → In m (logOf u W) → (1 ≤ m) × (m ≤ length (messagesOf W))
   -- what is no unit has no log
   pub units : (u : ℕ) → planInUse W .units ≤ u → logOf u W ≡ []
   pub records : (j : ℕ) → j < length (hopsOf W) → HopWithin (messagesOf W) (hopAt (hopsOf W) j)

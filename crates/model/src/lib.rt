@@ -14,6 +14,6 @@ pub struct Hop {
 pub struct Message {
     pub source: u8,
     pub group: u8,
-    pub word: u16,
+    pub word: u32,
     pub forest: u16,
 }

@@ -12,9 +12,9 @@ pub fn put_refusal(out: &mut [u8], at: usize, line: u16, number: u16) -> usize
     ensures { λ r. ⌜ Written (refusedLine line number ++ 10 ∷ []) at (now (out .entry)) r (now (out .exit)) ⌝ }
 {
     let value = put_text(out, at, b"refused=");
-    let comma = put_number(out, value, line);
+    let comma = put_number(out, value, line as u32);
     let second = put(out, comma, 44);
-    let end = put_number(out, second, number);
+    let end = put_number(out, second, number as u32);
     put(out, end, 10)
 }
 
@@ -26,7 +26,7 @@ fn put_messages(out: &mut [u8], at: usize, log: &[u16]) -> usize
     let mut i = 0;
     while i < log.len() {
         let message = put(out, next, 44);
-        next = put_number(out, message, log[i]);
+        next = put_number(out, message, log[i] as u32);
         i += 1;
     }
     next
@@ -37,7 +37,7 @@ pub fn put_log(out: &mut [u8], at: usize, unit: u16, log: &[u16]) -> usize
     ensures { λ r. ⌜ Written (logLine unit (now (log .entry)) ++ 10 ∷ []) at (now (out .entry)) r (now (out .exit)) ⌝ }
 {
     let value = put_text(out, at, b"log=");
-    let messages = put_number(out, value, unit);
+    let messages = put_number(out, value, unit as u32);
     let end = put_messages(out, messages, log);
     put(out, end, 10)
 }
@@ -46,7 +46,7 @@ pub fn put_log(out: &mut [u8], at: usize, unit: u16, log: &[u16]) -> usize
 pub fn put_hops(out: &mut [u8], at: usize, hops: u16) -> usize
     ensures { λ r. ⌜ Written (hopsLine hops ++ 10 ∷ []) at (now (out .entry)) r (now (out .exit)) ⌝ }
 {
-    line_writer::put_count(out, at, b"hops=", hops)
+    line_writer::put_count(out, at, b"hops=", hops as u32)
 }
 
 // The last line: `rest=` and `yes` or `no`.

@@ -3,8 +3,8 @@
 use mathlib.Core.Path.{_≡_, refl, sym, ap, subst, _∙_}
 use mathlib.Core.Bool.{true, not}
 use mathlib.Core.List.{List, [], _∷_, _++_, append-nil, map}
-use Prim.Native.Nat.{ℕ, suc, _+_, _*_, _-_, _≤_, _<_}
-use native.Mathlib.Nat.{add-zero, suc-ne-zero}
+use Prim.Native.Nat.{ℕ, suc, _+_, _*_, _-_, _≤_, _<_, suc-le-suc}
+use native.Mathlib.Nat.{add-zero, suc-ne-zero, zero-lt-suc, le-of-suc-le-suc, min-eq-left}
 use native.Mathlib.Numerals.{add-one}
 use native.Mathlib.Omega.{arith}
 use borrow.Author.Tests.{lt-ltb, ltb-true, ne-eqb}
@@ -22,6 +22,7 @@ use Rattle.model.specs.Demand3.{Planned, carried, carriedBy, takenTotal}
 use Rattle.model.specs.Claims.{callOf}
 use Rattle.model.proofs.Hops.{sum-snoc, count-length}
 use Rattle.model.proofs.Theorems.{limits, run-takes}
+use Rattle.bench_store.specs.Values.{capped}
 use Rattle.bench_promises.specs.declared.replies.SendReply.{SendReply}
 use Rattle.bench_promises.specs.declared.replies.SendReply.the-variants.{Sent as SentNumber, ListTooShort as SendTooShort, NoSuchUnit}
 use Rattle.bench_promises.specs.declared.replies.SendReply.the-variants.{NoSuchGroup, TooManyMessages, RoutesTooLong}
@@ -37,6 +38,7 @@ use Rattle.bench_promises.proofs.Reached.{hops-whole, book-whole, called-reache
 use Rattle.bench_engine.specs.declared.Sent.{Sent}
 use Rattle.bench_engine.specs.declared.Arrived.{Arrived}
 use Rattle.lines.specs.Lines.{Event as FileEvent, Send as SendEvent, Arrive as ArriveEvent, eventNumbers}
+use Rattle.lines.specs.Good.{GoodEvent, GoodEvents}
 use Rattle.benchfile.specs.File.{ended}
 use Rattle.benchfile.specs.Calls.{numbersOf}
 use Rattle.benchfile.proofs.WrittenLines.{ended-append}
@@ -54,26 +56,33 @@ numbered (ArriveEvent hop) = record { first = 0; second = hop; third = 0 }
 
 -- the event at place n, and what is behind it
 record EventThere (list : List ℕ) (n : ℕ) (e : Event) (rest : List ℕ) : Type 0 where
-  event : _≡_ {A = Event} (record { first = getD list n 0; second = getD list (n + 1) 0; third = getD list (n + 2) 0 }) e
+  event : _≡_ {A = Event}
+      (record { first = capped (getD list n 0); second = capped (getD list (n + 1) 0); third = getD list (n + 2) 0 }) e
   behind : drop (n + 3) list ≡ rest
   inside : n < length list
 
-three-there : (list : List ℕ) (n a b c : ℕ) (rest : List ℕ) → drop n list ≡ a ∷ b ∷ c ∷ rest
+capped-small : (n : ℕ) → n < 65536 → capped n ≡ n
+unfolding capped
+capped-small n h = min-eq-left (le-of-suc-le-suc h)
+
+three-there : (list : List ℕ) (n a b c : ℕ) (rest : List ℕ) → a < 65536 → b < 65536 → drop n list ≡ a ∷ b ∷ c ∷ rest
     → EventThere list n (record { first = a; second = b; third = c }) rest
-three-there list n a b c rest e =
+three-there list n a b c rest small small′ e =
     let at : (i : ℕ) → getD list (n + i) 0 ≡ getD (a ∷ b ∷ c ∷ rest) i 0 = λ i. sym (getD-drop n list i 0) ∙ ap
     (λ (l : List ℕ). getD l i 0) e in
-    let one : getD list n 0 ≡ a = ap (λ (i : ℕ). getD list i 0) (sym (add-zero n)) ∙ at 0 in record {
-      event = λ i. record { first = one i; second = at 1 i; third = at 2 i };
+    let one : getD list n 0 ≡ a = ap (λ (i : ℕ). getD list i 0) (sym (add-zero n)) ∙ at 0 in
+    let first : capped (getD list n 0) ≡ a = ap capped one ∙ capped-small a small in
+    let second : capped (getD list (n + 1) 0) ≡ b = ap capped (at 1) ∙ capped-small b small′ in record {
+      event = λ i. record { first = first i; second = second i; third = at 2 i };
       behind = sym (drop-drop 3 n list) ∙ ap (drop 3) e;
       inside = omega (arith, length-drop n list, ap length e);
     }
 
-event-there : (list : List ℕ) (n : ℕ) (e : FileEvent) (rest : List ℕ) → drop n list ≡ eventNumbers e ++ rest → EventThere list n
-    (numbered e) rest
+event-there : (list : List ℕ) (n : ℕ) (e : FileEvent) (rest : List ℕ) → GoodEvent e → drop n list ≡ eventNumbers e ++ rest
+    → EventThere list n (numbered e) rest
 unfolding eventNumbers numbered
-event-there list n (SendEvent s g w) rest e = three-there list n (suc s) g w rest e
-event-there list n (ArriveEvent hop) rest e = three-there list n 0 hop 0 rest e
+event-there list n (SendEvent s g w) rest good e = three-there list n (suc s) g w rest (suc-le-suc (good .0)) (good .1) e
+event-there list n (ArriveEvent hop) rest good e = three-there list n 0 hop 0 rest (omega arith) good e
 
 -- ---- what is printed of an answer, and what it counts
 
@@ -282,27 +291,28 @@ module _ (P : Plan) (planned : Planned P) where
       {book book′ out out′ : List ℕ}
       → EventsRun list p b hops book out q b′ hops′ book′ out′ → Called P past b hops book
       → drop (3 * p .count) list ≡ numbersOf es
-      → p .count + length es ≤ 3000 → p .line + length es ≤ 65535 → p .taken ≡ takenTotal past
+      → GoodEvents es → p .count + length es ≤ 3000 → p .line + length es ≤ 65535 → p .taken ≡ takenTotal past
       → EventsLeft P past es p out q b′ hops′ book′ out′
   unfolding numbersOf refusedEvents ended callOf eventAt
   events-run past [] {q = q} {b′ = b′} {hops′ = hops′} {book′ = book′} {out = out} (over stop) C numbers
-      few lines sum = record {
+      good few lines sum = record {
         new = [];
         chain = subst (λ (l : List Answered). Called P l b′ hops′ book′) (sym (append-nil past)) C;
         calls = refl;
         prints = written-none (q .at) out;
         sum = sum ∙ ap takenTotal (sym (append-nil past));
       }
-  events-run past (e ∷ es) {list} {p = p} (over stop) C numbers few lines sum =
-      absurd (clash (still-going p list (omega arith) (event-there list (3 * p .count) e (numbersOf es) numbers .inside)) stop)
-  events-run past [] {list} {p = p} (next goes E N R) C numbers few lines sum =
+  events-run past (e ∷ es) {list} {p = p} (over stop) C numbers good few lines sum =
+      let there = event-there list (3 * p .count) e (numbersOf es) (good 0 (zero-lt-suc (length es))) numbers in
+      absurd (clash (still-going p list (omega arith) (there .inside)) stop)
+  events-run past [] {list} {p = p} (next goes E N R) C numbers good few lines sum =
       absurd (omega (arith, going-inside p list goes, length-drop (3 * p .count) list, ap length numbers))
-  events-run past (e ∷ es) {list} {p = p} (next {r = r} goes E N R) C numbers few lines sum =
-      let there = event-there list (3 * p .count) e (numbersOf es) numbers in
+  events-run past (e ∷ es) {list} {p = p} (next {r = r} goes E N R) C numbers good few lines sum =
+      let there = event-there list (3 * p .count) e (numbersOf es) (good 0 (zero-lt-suc (length es))) numbers in
       let one = ran-event P planned e (there .event) E C sum in
       let on = went-on N (omega (arith, one .count, few)) (omega (arith, one .line, lines)) in
       let place : 3 * r .count ≡ 3 * p .count + 3 = omega (arith, on .count, one .count) in
       joined-events one N on (events-run (past ++ answered (callFor e) (one .answer) ∷ []) es R
       (one .chain)
-      (ap (λ (n : ℕ). drop n list) place ∙ there .behind)
+      (ap (λ (n : ℕ). drop n list) place ∙ there .behind) (λ k b. good (suc k) (suc-le-suc b))
       (omega (arith, on .count, one .count, few)) (omega (arith, on .line, one .line, lines)) (on .taken ∙ one .sum))

@@ -62,7 +62,7 @@ module _ {M : Type 1} (𝓤 : URA M) (H : Heap 𝓤) (A : Atoms 𝓤) where
   second-callee = by-rule 𝓤 H A (value Event.the-row by-event ∷ []) u16 (by-uint w16) (λ d. d .0 .second)
 
   abbrev pub third-callee : Callee 𝓤 H A
-  third-callee = by-rule 𝓤 H A (value Event.the-row by-event ∷ []) u16 (by-uint w16) (λ d. d .0 .third)
+  third-callee = by-rule 𝓤 H A (value Event.the-row by-event ∷ []) u32 (by-uint w32) (λ d. d .0 .third)
 
   abbrev pub totals-of-callee : Callee 𝓤 H A
   totals-of-callee = by-rule 𝓤 H A (value Progress.the-row by-progress ∷ []) T by-counts (λ d. d .0 .totals)
@@ -83,12 +83,12 @@ module _ {M : Type 1} (𝓤 : URA M) (H : Heap 𝓤) (A : Atoms 𝓤) where
   -- these two are lent the list
   abbrev pub is-going-callee : Callee 𝓤 H A
   is-going-callee =
-      stating 𝓤 H A 1 (value Progress.the-row by-progress ∷ relayed 0 tt u16 (by-uint w16) ∷ []) bool by-bool the-result
+      stating 𝓤 H A 1 (value Progress.the-row by-progress ∷ relayed 0 tt u32 (by-uint w32) ∷ []) bool by-bool the-result
       (λ d. isGoing (d .0 .count) (d .1 .0)) (λ d. tt)
 
   abbrev pub event-at-callee : Callee 𝓤 H A
   event-at-callee =
-      stating 𝓤 H A 1 (value Progress.the-row by-progress ∷ relayed 0 tt u16 (by-uint w16) ∷ []) Event.the-row by-event the-result
+      stating 𝓤 H A 1 (value Progress.the-row by-progress ∷ relayed 0 tt u32 (by-uint w32) ∷ []) Event.the-row by-event the-result
       (λ d. eventAt (d .0 .count) (d .1 .0)) (λ d. tt)
 
   -- ---- by a relation
@@ -118,7 +118,7 @@ module _ {M : Type 1} (𝓤 : URA M) (H : Heap 𝓤) (A : Atoms 𝓤) where
 
   abbrev pub run-events-callee : RelationalCallee 𝓤 H A
   run-events-callee =
-      promising 𝓤 H A 8 (value Progress.the-row by-progress ∷ relayed 0 tt u16 (by-uint w16) ∷ relayed 1 tt u32 (by-uint w32) ∷
+      promising 𝓤 H A 8 (value Progress.the-row by-progress ∷ relayed 0 tt u32 (by-uint w32) ∷ relayed 1 tt u32 (by-uint w32) ∷
       lent 2 tt u32 ∷ lent 3 tt Grid ∷ lent 4 tt u16 ∷ lent 5 tt R ∷ lent 6 tt u16 ∷ lent 7 tt u8 ∷ [])
       Progress.the-row by-progress
       (λ d r es. let l = d .1 .1 in
@@ -127,7 +127,7 @@ module _ {M : Type 1} (𝓤 : URA M) (H : Heap 𝓤) (A : Atoms 𝓤) where
 
   abbrev pub run-events-shown-callee : RelationalCallee 𝓤 H A
   run-events-shown-callee =
-      promising 𝓤 H A 8 (value Progress.the-row by-progress ∷ relayed 0 tt u16 (by-uint w16) ∷ shown 1 tt u32 ∷
+      promising 𝓤 H A 8 (value Progress.the-row by-progress ∷ relayed 0 tt u32 (by-uint w32) ∷ shown 1 tt u32 ∷
       lent 2 tt u32 ∷ lent 3 tt Grid ∷ lent 4 tt u16 ∷ lent 5 tt R ∷ lent 6 tt u16 ∷ lent 7 tt u8 ∷ [])
       Progress.the-row by-progress
       (λ d r es. let l = d .1 .1 in
@@ -145,14 +145,14 @@ module _ {M : Type 1} (𝓤 : URA M) (H : Heap 𝓤) (A : Atoms 𝓤) where
   -- of benches.rt
   abbrev pub run-hops-callee : RelationalCallee 𝓤 H A
   run-hops-callee =
-      promising 𝓤 H A 4 (plan-and (relayed 0 tt u16 (by-uint w16) ∷ lent 1 tt R ∷ lent 2 tt u16 ∷ lent 3 tt u8 ∷ []))
+      promising 𝓤 H A 4 (plan-and (relayed 0 tt u32 (by-uint w32) ∷ lent 1 tt R ∷ lent 2 tt u16 ∷ lent 3 tt u8 ∷ []))
       Totals.the-row by-totals
       (λ d r es. let l = d .1 .1 .1 .1 in BenchRun (d .0) (d .1 .1 .0) (d .1 .0) (d .1 .1 .1 .0) (l .0) (l .1 .0) (l .1 .1 .0)
       (l .1 .1 .1 .0) r (es .0) (es .1 .0) (es .1 .1 .0))
 
   abbrev pub run-bench-callee : RelationalCallee 𝓤 H A
   run-bench-callee =
-      promising 𝓤 H A 3 (plan-and (relayed 0 tt u16 (by-uint w16) ∷ lent 1 tt u16 ∷ lent 2 tt u8 ∷ [])) Totals.the-row by-totals
+      promising 𝓤 H A 3 (plan-and (relayed 0 tt u32 (by-uint w32) ∷ lent 1 tt u16 ∷ lent 2 tt u8 ∷ [])) Totals.the-row by-totals
       (λ d r es. let l = d .1 .1 .1 .1 in (hops : List Hop) × BenchRun (d .0) (d .1 .1 .0) (d .1 .0) (d .1 .1 .1 .0) (l .0)
       (replicate 2000 noHop) (l .1 .0) (l .1 .1 .0)
       r hops (es .0) (es .1 .0))

@@ -1,4 +1,5 @@
 pub mod Plans
+pub mod Refusals
 pub mod RunResults
 pub mod Lines
 pub mod Lengths

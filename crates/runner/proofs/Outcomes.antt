@@ -55,7 +55,7 @@ module _ {c : Content} {line n : ℕ} {list out left : List ℕ} {r : RunAnswer}
   content-refused some P = record {
     refused = λ number values e. subst (λ (k : ℕ). PrintedAs (refusedLine line k ++ 10 ∷ []) 0 out r left)
         (is ∙ ap numberIn (same ∙ e)) P;
-    ran = λ e es _ few. absurd (some (is ∙ ap numberIn (same ∙ e)));
+    ran = λ e es _ few good. absurd (some (is ∙ ap numberIn (same ∙ e)));
   }
 
   pub content-ran : {book book′ : List ℕ} {hops : List Hop} {t : Totals} (ps : List ℕ) → n ≡ 0 → ps ≡ forestParents c
@@ -64,11 +64,11 @@ module _ {c : Content} {line n : ℕ} {list out left : List ℕ} {r : RunAnswer}
       → (runAnswer (r .reply) ≡ WroteBytes (t .bytes)) × (r .taken ≡ t .taken) → ContentRun c line list out r left
   content-ran {book} {book′} {hops} {t} ps none parents places size B said = record {
     refused = λ number values e. absurd (suc-ne-zero (length values) (ap length (sym e ∙ sym same ∙ no-number v (sym is ∙ none))));
-    ran = λ e es listed few.
+    ran = λ e es listed few good.
         let B′ = subst (λ (qs : List ℕ). BenchRun (c .units) (c .count) (c .groups) qs list (replicate 2000 noHop)
         book out t hops book′
         left) parents B in
-        let S = bench-run c es e places listed few (length-replicate 2000 noHop) size B′ in
+        let S = bench-run c es e places listed few good (length-replicate 2000 noHop) size B′ in
         record { place = t .bytes; says = said .0; prints = S .0; sum = said .1 ∙ S .1 };
   }
 
@@ -196,7 +196,7 @@ module _ (file list events : List ℕ) (a : ReadAnswer) (size : length list ≡ 
           (λ (e : forestRefusal (contentOf F) ≡ []).
           let q : result file ≡ ranOn (contentOf F) (F .events) = ap resultOf good ∙ ap (λ (l : List ℕ). onForest l F) e in
           from-result file _ out left _ r long (sym (ap (λ (x : Result). ended (resultLines x)) q)) (sym (ap takenBy q))
-          (C .ran e (F .events) refl (read-good 9000 file F good .total)))
+          (C .ran e (F .events) refl (read-good 9000 file F good .total) (read-good 9000 file F good .event)))
           (λ (x : (number : ℕ) × (values : List ℕ) × (forestRefusal (contentOf F) ≡ number ∷ values)).
           let q : result file ≡ RefusedAt (3 + length (F .groups)) (x .0) = ap resultOf good
           ∙ ap (λ (l : List ℕ). onForest l F) (x .2) in

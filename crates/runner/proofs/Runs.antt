@@ -29,6 +29,7 @@ use Rattle.bench_promises.proofs.Padding.{plus-small}
 use Rattle.bench_promises.proofs.Reached.{hop-records-length, log-book-length}
 use Rattle.bench_promises.proofs.Theorems.{handed-log, reached, same-calls, list-history, list-log, list-rest}
 use Rattle.lines.specs.Lines.{Event as FileEvent}
+use Rattle.lines.specs.Good.{GoodEvents}
 use Rattle.benchfile.specs.File.{ended}
 use Rattle.benchfile.specs.Calls.{numbersOf}
 use Rattle.benchfile.specs.declared.Content.{Content}
@@ -131,12 +132,12 @@ all-of n l left y size all e =
 -- whatever the 2,000 hops hold
 pub bench-run : (c : Content) (es : List FileEvent) {list book out : List ℕ} {hops : List Hop} {t : Totals} {hops′ : List Hop}
     {book′ left : List ℕ}
-    → forestRefusal c ≡ [] → length (c .groups) ≡ 24 → list ≡ numbersOf es → length es ≤ 3000 → length hops ≡ 2000
-    → length book ≡ 6400
+    → forestRefusal c ≡ [] → length (c .groups) ≡ 24 → list ≡ numbersOf es → length es ≤ 3000 → GoodEvents es
+    → length hops ≡ 2000 → length book ≡ 6400
     → BenchRun (c .units) (c .count) (c .groups) (forestParents c) list hops book out t hops′ book′ left
     → Written (ended (resultLines (ranOn c es))) 0 out (t .bytes) left × (t .taken ≡ takenBy (ranOn c es))
 unfolding planOf ranOn begunWith takenTotal sumOf run runFrom networkOf
-bench-run c es {book = book} {out} {hops} {t} {left = left} accepted places same few size size′ B =
+bench-run c es {book = book} {out} {hops} {t} {left = left} accepted places same few good size size′ B =
     let P = planOf c in
     let planned = plan-planned c accepted in
     let groups = plan-groups c accepted in
@@ -150,6 +151,6 @@ bench-run c es {book = book} {out} {hops} {t} {left = left} accepted places same
     let C : Called P [] (B .first) (B .hops-fresh) (B .book-fresh) =
     coe 0 1 (i. Called P [] (B .first) (all-of 2000 hops (B .hops-fresh) (hopRecords W) (hop-records-length W L) size (x .1) i)
     (all-of 6400 book (B .book-fresh) (logBook W) (log-book-length W L) size′ (x .2) i)) (begun (B .begins) (x .0)) in
-    let E = events-run P planned [] es (B .runs) C same (omega (arith, few)) (omega (arith, line, few, groups)) refl in
+    let E = events-run P planned [] es (B .runs) C same good (omega (arith, few)) (omega (arith, line, few, groups)) refl in
     subst (λ (k : ℕ). Shown (RanFrom k P (run P (map callFor es))) 0 out t left) line
     (run-shown P planned units es E (B .rests) (B .finishes))

@@ -5,7 +5,7 @@ use mathlib.Core.Bool.{Bool, true, false, _&&_, not, cond}
 use mathlib.Core.List.{List, [], _∷_, _++_}
 use lib.ListN.{length, getD}
 use lib.Dec.{ltb, eqb}
-use Rattle.bench_store.specs.Values.{plus}
+use Rattle.bench_store.specs.Values.{plus, capped}
 use Rattle.model.specs.declared.Hop.{Hop}
 use Rattle.model.specs.Rules.{Answer, Refused, Sent, Repeat, Held, Taken}
 use Rattle.model.specs.Calls.{RestAnswer, RestRefused, Rest}
@@ -24,6 +24,7 @@ use Rattle.benchfile.specs.File.{ended}
 use Rattle.benchfile.specs.Calls.{Answer as Reply, TurnedAway, ReadNumbers, WroteBytes, numbersOf}
 use Rattle.benchfile.specs.declared.Content.{Content}
 use Rattle.lines.specs.Lines.{Event as FileEvent}
+use Rattle.lines.specs.Good.{GoodEvents}
 use Rattle.output_lines.specs.Output.{refusedLine, logLine, hopsLine, restLine}
 use Rattle.runner.specs.Printed.{forestRefusal, ranOn, logLines, resultLines, takenBy, runAnswer}
 use Rattle.runner.specs.declared.RunAnswer.{RunAnswer}
@@ -68,9 +69,13 @@ begunWith groups totals = record { totals = totals; at = 0; count = 0; line = pl
 unfoldable pub isGoing : ℕ → List ℕ → Bool
 isGoing n list = ltb n 3000 && ltb (3 * n) (length list)
 
--- the next event
+-- the next event; what is no word is read in 16 bits
 unfoldable pub eventAt : ℕ → List ℕ → Event
-eventAt n list = record { first = getD list (3 * n) 0; second = getD list (3 * n + 1) 0; third = getD list (3 * n + 2) 0 }
+eventAt n list = record {
+  first = capped (getD list (3 * n) 0);
+  second = capped (getD list (3 * n + 1) 0);
+  third = getD list (3 * n + 2) 0;
+}
 
 unfoldable pub isSend : Event → Bool
 isSend e = not (eqb (e .first) 0)
@@ -191,5 +196,5 @@ pub record PrintedAs (text : List ℕ) (taken : ℕ) (out : List ℕ) (r : RunAn
 pub record ContentRun (c : Content) (line : ℕ) (list out : List ℕ) (r : RunAnswer) (left : List ℕ) : Type 0 where
   pub refused : (number : ℕ) (values : List ℕ) → forestRefusal c ≡ number ∷ values
       → PrintedAs (refusedLine line number ++ 10 ∷ []) 0 out r left
-  pub ran : forestRefusal c ≡ [] → (es : List FileEvent) → list ≡ numbersOf es → length es ≤ 3000
+  pub ran : forestRefusal c ≡ [] → (es : List FileEvent) → list ≡ numbersOf es → length es ≤ 3000 → GoodEvents es
       → PrintedAs (ended (resultLines (ranOn c es))) (takenBy (ranOn c es)) out r left

@@ -25,7 +25,7 @@ fn run_hops(
     groups: [u32; Limits::GROUPS],
     count: usize,
     parents: [u8; Limits::UNITS],
-    list: &[u16],
+    list: &[u32],
     hops: &mut [model::Hop],
     book: &mut [u16],
     out: &mut [u8],
@@ -61,7 +61,7 @@ pub fn run_bench(
     groups: [u32; Limits::GROUPS],
     count: usize,
     parents: [u8; Limits::UNITS],
-    list: &[u16],
+    list: &[u32],
     book: &mut [u16],
     out: &mut [u8],
 ) -> Totals

@@ -28,11 +28,12 @@ pub struct Progress {
     pub refusal: u8,
 }
 
-// An event as it stands in the list (document 01): of a send source+1, group and word, of an arrival 0, hop and 0.
+// An event as it stands in the list (document 01): of a send source+1, group and word, of an arrival 0, hop and 0. Only a word may need
+// more than 16 bits.
 pub struct Event {
     pub first: u16,
     pub second: u16,
-    pub third: u16,
+    pub third: u32,
 }
 
 // Before the first event, which stands in the fourth line after those of the groups.
@@ -50,7 +51,7 @@ pub fn begun(groups: usize, totals: Totals) -> Progress
 }
 
 // Whether there is one event more. A list has at most 3,000.
-fn is_going(p: Progress, list: &[u16]) -> bool
+fn is_going(p: Progress, list: &[u32]) -> bool
     ensures { λ r. ⌜ r ≡ isGoing (p .count) (now (list .entry)) ⌝ }
 {
     if 3000 <= p.count {
@@ -60,7 +61,7 @@ fn is_going(p: Progress, list: &[u16]) -> bool
 }
 
 // Number i of a list; 0 past its end.
-fn number_at(list: &[u16], i: usize) -> u16
+fn number_at(list: &[u32], i: usize) -> u32
     ensures { λ r. ⌜ r ≡ getD (now (list .entry)) i 0 ⌝ }
 {
     if i < list.len() {
@@ -70,13 +71,13 @@ fn number_at(list: &[u16], i: usize) -> u16
 }
 
 // The next event.
-fn event_at(p: Progress, list: &[u16]) -> Event
+fn event_at(p: Progress, list: &[u32]) -> Event
     ensures { λ r. ⌜ r ≡ eventAt (p .count) (now (list .entry)) ⌝ }
 {
     let i = 3 * (p.count as usize);
     Event {
-        first: number_at(list, i),
-        second: number_at(list, i + 1),
+        first: bench_store::capped(number_at(list, i)),
+        second: bench_store::capped(number_at(list, i + 1)),
         third: number_at(list, i + 2),
     }
 }
@@ -103,7 +104,7 @@ fn second(e: Event) -> u16
     e.second
 }
 
-fn third(e: Event) -> u16
+fn third(e: Event) -> u32
     ensures { λ r. ⌜ r ≡ e .third ⌝ }
 {
     e.third
@@ -235,7 +236,7 @@ fn noted(p: Progress, out: &mut [u8]) -> Progress
 // Runs the events of a list.
 pub fn run_events(
     start: Progress,
-    list: &[u16],
+    list: &[u32],
     tables: &[u32],
     messages: &mut [u32],
     pairs: &mut [[[u16; Limits::UNITS]; Limits::UNITS]],

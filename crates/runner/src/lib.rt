@@ -26,8 +26,8 @@ pub struct RunAnswer {
 }
 
 impl RunAnswer {
-    // The least length of the lent list. A number has at most five digits: 3,000 refused events of 20 bytes, 32 logs of 1,210, `hops=` of
-    // 11 and `rest=` of 9.
+    // The least length of the lent list. A number that is printed has at most five digits: 3,000 refused events of 20 bytes, 32 logs of
+    // 1,210, `hops=` of 11 and `rest=` of 9.
     pub const OUTPUT: usize = 98740;
 }
 
@@ -50,7 +50,7 @@ fn refused(line: u16, number: u16, out: &mut [u8]) -> RunAnswer
 }
 
 // Runs a file that was read: its content, the line of `parents=`, and the numbers of its events.
-fn run_content(content: Content, line: u16, list: &[u16], out: &mut [u8]) -> RunAnswer
+fn run_content(content: Content, line: u16, list: &[u32], out: &mut [u8]) -> RunAnswer
     ensures { λ r. ⌜ ContentRun content line (now (list .entry)) (now (out .entry)) r (now (out .exit)) ⌝ }
 {
     let forest = reading::forest_of(content);
@@ -84,7 +84,7 @@ pub fn run(file: &[u8], out: &mut [u8]) -> RunAnswer
             taken: 0,
         };
     }
-    let mut list = [0u16; 9000];
+    let mut list = [0u32; 9000];
     let answer = benchfile::read(file, &mut list);
     let reply = answer.reply;
     let number = reading::reply_number(reply);

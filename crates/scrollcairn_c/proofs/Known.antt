@@ -133,9 +133,8 @@ module _ {M : Type 1} (𝓤 : URA M) (H : Heap 𝓤) (A : Atoms 𝓤) where
 
   abbrev pub send-callee : RelationalCallee 𝓤 H A
   send-callee =
-      promising 𝓤 H A 4 (value T by-totals ∷ number ∷ number ∷ number ∷ lent 0 tt u32 ∷ lent 1 tt u32 ∷ lent 2 tt Grid
-      ∷ lent 3 tt R ∷
-      []) Step.the-row by-step
+      promising 𝓤 H A 4 (value T by-totals ∷ number ∷ number ∷ value u32 (by-uint w32) ∷ lent 0 tt u32 ∷ lent 1 tt u32 ∷
+      lent 2 tt Grid ∷ lent 3 tt R ∷ []) Step.the-row by-step
       (λ d r es. let l = d .1 .1 .1 .1 in (gauges book : List ℕ) → SendExported (d .0) (d .1 .0) (d .1 .1 .0) (d .1 .1 .1 .0)
       (lists (l .0) (l .1 .0) (l .1 .1 .0) gauges (l .1 .1 .1 .0) book) r
       (lists (es .0) (es .1 .0) (es .1 .1 .0) gauges (es .1 .1 .1 .0) book))

@@ -59,7 +59,7 @@ pub extern "C" fn scrollcairn_check(
 #[no_mangle]
 pub extern "C" fn scrollcairn_read(
     file: &[u8],
-    events: &mut [u16],
+    events: &mut [u32],
     groups: &mut [u32; 24],
     parents: &mut [u8; 32],
     counts: &mut [u16; 4],
@@ -87,7 +87,7 @@ pub extern "C" fn scrollcairn_write(
     groups: &[u32; 24],
     parents: &[u8; 32],
     counts: &[u16; 4],
-    events: &[u16],
+    events: &[u32],
     out: &mut [u8],
     answer: &mut [u64; 3],
 )
@@ -109,7 +109,7 @@ pub extern "C" fn scrollcairn_calls(
     parents: &[u8; 32],
     fresh_hops: usize,
     fresh_book: usize,
-    calls: &[u16],
+    calls: &[u32],
     book: &mut [u16],
     hops: &mut [u16],
     bench: &mut [u32],

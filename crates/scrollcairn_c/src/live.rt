@@ -65,7 +65,7 @@ pub extern "C" fn scrollcairn_send(
     totals: Totals,
     source: u16,
     group: u16,
-    word: u16,
+    word: u32,
     tables: &mut [u32],
     messages: &mut [u32],
     pairs: &mut [[[u16; Limits::UNITS]; Limits::UNITS]],

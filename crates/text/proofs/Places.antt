@@ -8,7 +8,7 @@ use native.Mathlib.Omega.{arith}
 use borrow.Author.Tests.{lt-ltb, le-ltb, le-leb, lt-leb, eq-eqb, ne-eqb}
 use lib.ListN.{length, drop, getD, drop-of-length-le}
 use lib.Seq.{drop-cons}
-use Rattle.text.specs.Text.{digit, number, startsWith}
+use Rattle.text.specs.Text.{noNumber, digit, number, startsWith}
 use Rattle.text.specs.Writing.{placeOf}
 
 -- the text from a place on: the byte there, and the text from the next place on
@@ -56,21 +56,21 @@ module _ (key text : List ℕ) (at : ℕ) (k : at < length key) (t : at < length
 
 -- ---- digits
 
-pub digit-low : (n b : ℕ) → b < 48 → digit n b ≡ 65536
+pub digit-low : (n b : ℕ) → b < 48 → digit n b ≡ noNumber
 unfolding digit
 digit-low n b h = rw (lt-leb 48 b h)
 
-pub digit-past : (n b : ℕ) → 57 < b → digit n b ≡ 65536
+pub digit-past : (n b : ℕ) → 57 < b → digit n b ≡ noNumber
 unfolding digit
 digit-past n b h = simp (lt-leb b 57 h, and-false)
 
-pub digit-high : (n b : ℕ) → 65536 ≤ n * 10 + (b - 48) → digit n b ≡ 65536
+pub digit-high : (n b : ℕ) → noNumber ≤ n * 10 + (b - 48) → digit n b ≡ noNumber
 unfolding digit
-digit-high n b h = simp (le-ltb (n * 10 + (b - 48)) 65536 h, and-false)
+digit-high n b h = simp (le-ltb (n * 10 + (b - 48)) noNumber h, and-false)
 
-pub digit-more : (n b : ℕ) → 48 ≤ b → b ≤ 57 → n * 10 + (b - 48) < 65536 → digit n b ≡ n * 10 + (b - 48)
+pub digit-more : (n b : ℕ) → 48 ≤ b → b ≤ 57 → n * 10 + (b - 48) < noNumber → digit n b ≡ n * 10 + (b - 48)
 unfolding digit
-digit-more n b l u h = rw (le-leb 48 b l, le-leb b 57 u, lt-ltb (n * 10 + (b - 48)) 65536 h)
+digit-more n b l u h = rw (le-leb 48 b l, le-leb b 57 u, lt-ltb (n * 10 + (b - 48)) noNumber h)
 
 pub digits-next : (n : ℕ) (text : List ℕ) (at : ℕ) → at < length text
     → foldl digit n (drop at text) ≡ foldl digit (digit n (getD text at 0)) (drop (at + 1) text)
@@ -81,12 +81,12 @@ digits-end n text at h = rw (drop-of-length-le text h)
 
 -- ---- a number
 
-pub number-empty : (text : List ℕ) → length text ≡ 0 → number text ≡ 65536
+pub number-empty : (text : List ℕ) → length text ≡ 0 → number text ≡ noNumber
 unfolding number
 number-empty [] h = refl
 number-empty (b ∷ bs) h = absurd (omega arith)
 
-pub number-zero : (text : List ℕ) → getD text 0 0 ≡ 48 → 1 < length text → number text ≡ 65536
+pub number-zero : (text : List ℕ) → getD text 0 0 ≡ 48 → 1 < length text → number text ≡ noNumber
 unfolding number
 number-zero [] e h = absurd (omega arith)
 number-zero (b ∷ []) e h = absurd (omega arith)

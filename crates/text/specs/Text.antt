@@ -8,19 +8,19 @@ use lib.Dec.{ltb, leb, eqb}
 
 -- ---- decimal numbers
 
--- 65,536 stands for what is no number: badly written, or above 65,535
-unfoldable pub isBad : ℕ → Bool
-isBad n = leb 65536 n
+-- stands for what is no number: badly written, or above 4,294,967,295. A place that takes less has its own limit.
+abbrev pub noNumber : ℕ
+noNumber = 4294967296
 
 -- byte b behind the digits of n
 unfoldable pub digit : ℕ → ℕ → ℕ
-digit n b = cond (leb 48 b && leb b 57 && ltb (n * 10 + (b - 48)) 65536) (n * 10 + (b - 48)) 65536
+digit n b = cond (leb 48 b && leb b 57 && ltb (n * 10 + (b - 48)) noNumber) (n * 10 + (b - 48)) noNumber
 
--- a decimal number: `0`, or digits the first of which is not 0, up to 65,535
+-- a decimal number: `0`, or digits the first of which is not 0, up to 4,294,967,295
 unfoldable pub number : List ℕ → ℕ
-number [] = 65536
+number [] = noNumber
 number (b ∷ []) = digit 0 b
-number (b ∷ c ∷ bs) = cond (eqb b 48) 65536 (foldl digit 0 (b ∷ c ∷ bs))
+number (b ∷ c ∷ bs) = cond (eqb b 48) noNumber (foldl digit 0 (b ∷ c ∷ bs))
 
 -- the digits of n, of which k are enough
 unfoldable pub decimalWithin : ℕ → ℕ → List ℕ
@@ -28,7 +28,7 @@ decimalWithin zero n = []
 decimalWithin (suc k) n = cond (ltb n 10) ((48 + n) ∷ []) (decimalWithin k (n / 10) ++ (48 + n % 10) ∷ [])
 
 unfoldable pub decimal : ℕ → List ℕ
-decimal n = decimalWithin 5 n
+decimal n = decimalWithin 10 n
 
 -- ---- lists with a separator
 

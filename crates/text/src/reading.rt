@@ -44,39 +44,42 @@ pub fn is_word(text: &[u8], word: &[u8]) -> bool
     starts_with(text, word)
 }
 
-// A byte behind the digits of n; 65,536 where that is no number.
-fn digit(n: u32, byte: u8) -> u32
+// What stands for no number: badly written, or above 4,294,967,295.
+const NO_NUMBER: u64 = 4294967296;
+
+// A byte behind the digits of n; `NO_NUMBER` where that is none.
+fn digit(n: u64, byte: u8) -> u64
     ensures { λ r. ⌜ r ≡ digitOf n byte ⌝ }
 {
-    if 65535 < n {
-        return 65536;
+    if NO_NUMBER <= n {
+        return NO_NUMBER;
     }
     if byte < 48 {
-        return 65536;
+        return NO_NUMBER;
     }
     if 57 < byte {
-        return 65536;
+        return NO_NUMBER;
     }
-    let next = n * 10 + (byte - 48) as u32;
-    if next < 65536 {
+    let next = n * 10 + (byte - 48) as u64;
+    if next < NO_NUMBER {
         return next;
     }
-    65536
+    NO_NUMBER
 }
 
-// A decimal number; 65,536 where the text is none.
-pub fn number(text: &[u8]) -> u32
+// A decimal number; `NO_NUMBER` where the text is none.
+pub fn number(text: &[u8]) -> u64
     ensures { λ r. ⌜ r ≡ numberOf (now (text .entry)) ⌝ }
 {
     if text.len() == 0 {
-        return 65536;
+        return NO_NUMBER;
     }
     if text[0] == 48 {
         if 1 < text.len() {
-            return 65536;
+            return NO_NUMBER;
         }
     }
-    let mut n: u32 = 0;
+    let mut n: u64 = 0;
     let mut at = 0;
     while at < text.len() {
         n = digit(n, text[at]);

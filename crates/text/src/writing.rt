@@ -28,7 +28,7 @@ pub fn put_text(out: &mut [u8], at: usize, text: &[u8]) -> usize
 }
 
 // A number in decimal digits.
-pub fn put_number(out: &mut [u8], at: usize, n: u16) -> usize
+pub fn put_number(out: &mut [u8], at: usize, n: u32) -> usize
     ensures { λ r. ⌜ Written (decimal n) at (now (out .entry)) r (now (out .exit)) ⌝ }
 {
     if n < 10 {

@@ -22,7 +22,7 @@ use Rattle.model.specs.Rules.{lower, lowestUntaken, placeOf, isHeldAt, nextHeld
 use Rattle.model.specs.Calls.{call, recorded, step as step-call, runFrom, run, log, rest}
 use Rattle.model.specs.Claims.{callOf}
 use Rattle.model.specs.Demand3.{Planned, built, checked}
-use Rattle.text.specs.Text.{isBad, digit, number, decimalWithin, decimal, inFront, split, join, startsWith, after, isWord, some}
+use Rattle.text.specs.Text.{digit, number, decimalWithin, decimal, inFront, split, join, startsWith, after, isWord, some}
 use Rattle.lines.specs.Lines.{refuse as refuse-line, unitsKey, groupsKey, groupKey, parentsKey, sendKey, arriveKey, buildWord, rootWord}
 use Rattle.lines.specs.Lines.{numbersIn, countIn, countFault, unitsFault, groupsFault, countLine, risesFrom, groupIn, groupFault}
 use Rattle.lines.specs.Lines.{entry as entry-in, entriesIn, parentOf, parentsIn, parentsFault, isBuild, parentsTable, badSend}
@@ -51,7 +51,7 @@ unfolding onesIn trailingZeros member single below union intersection difference
     groupOf primaryOf routeOf routeSizeOf noPlan planAt forestsOf freshOn noMessage ledgerOf messageAt hopAt logOf messagesOf hopsOf isOut
     isHeld isTaken withState setState isPair countHops pairCount newHop made refuse-call refused routeTotal send push rising childrenOn
     forward logged takeHop lower lowestUntaken placeOf isHeldAt nextHeld tally settle hold arrive allTaken quiescent call recorded
-    step-call runFrom run log rest isBad digit number decimalWithin decimal inFront split join startsWith after isWord some refuse-line
+    step-call runFrom run log rest digit number decimalWithin decimal inFront split join startsWith after isWord some refuse-line
     unitsKey groupsKey groupKey parentsKey sendKey arriveKey buildWord rootWord numbersIn countIn countFault unitsFault groupsFault
     countLine risesFrom groupIn groupFault entry-in entriesIn parentOf parentsIn parentsFault isBuild parentsTable badSend eventFault
     eventIn next step finish steps readFile ended contentOf refusedKey logKey hopsKey restKey answerWord refusedLine messageTexts logLine

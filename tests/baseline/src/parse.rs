@@ -88,19 +88,29 @@ fn commas(list: &[u8]) -> impl Iterator<Item = &[u8]> {
     list.split(|&byte| byte == b',')
 }
 
-/// A decimal number without leading zeros, up to 65,535.
-fn number(text: &[u8]) -> Option<u16> {
-    if text.is_empty() || text.len() > 5 || (text.len() > 1 && text[0] == b'0') {
+/// A decimal number of at most so many digits, without leading zeros.
+fn decimal(text: &[u8], digits: usize) -> Option<u64> {
+    if text.is_empty() || text.len() > digits || (text.len() > 1 && text[0] == b'0') {
         return None;
     }
-    let mut number = 0u32;
+    let mut number = 0;
     for &byte in text {
         if !byte.is_ascii_digit() {
             return None;
         }
-        number = number * 10 + (byte - b'0') as u32;
+        number = number * 10 + (byte - b'0') as u64;
     }
-    u16::try_from(number).ok()
+    Some(number)
+}
+
+/// A number up to 65,535.
+fn number(text: &[u8]) -> Option<u16> {
+    u16::try_from(decimal(text, 5)?).ok()
+}
+
+/// A word, up to 4,294,967,295.
+fn word(text: &[u8]) -> Option<u32> {
+    u32::try_from(decimal(text, 10)?).ok()
 }
 
 fn members(list: &[u8], units: usize) -> Result<u32, u16> {
@@ -151,7 +161,7 @@ fn send(list: &[u8]) -> Option<Event> {
     let mut parts = commas(list);
     let source = number(parts.next()?)?;
     let group = number(parts.next()?)?;
-    number(parts.next()?)?;
+    word(parts.next()?)?;
     match parts.next() {
         None if source < u16::MAX => Some(Event::Send { source, group }),
         _ => None,

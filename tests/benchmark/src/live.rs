@@ -2,15 +2,15 @@
 
 use crate::inputs::{Largest, Order, Random};
 use crate::timing::{both, heading, prepared, rounds, row};
-use model::file::Content;
+use model::file::{Content, Event};
 use model::{BOOK, EVENTS, HOPS, UNITS};
 use scrollcairn::live;
 use std::hint::black_box;
 
-/// A run of a bench file, taken apart: its forest, its sends (source, group, word), its arrivals, and the logs that they leave.
+/// A run of a bench file, taken apart: its forest, its sends (source, group and word), its arrivals, and the logs that they leave.
 struct Run {
     forest: Content,
-    sends: Vec<[u16; 3]>,
+    sends: Vec<(u16, u16, u32)>,
     arrivals: Vec<u16>,
     logs: Vec<Vec<u16>>,
 }
@@ -22,8 +22,8 @@ impl Run {
         let (mut sends, mut arrivals) = (Vec::new(), Vec::new());
         for (event, _) in &run.events {
             match *event {
-                [0, hop, _] => arrivals.push(hop),
-                [source, group, word] => sends.push([source - 1, group, word]),
+                Event::Arrive { hop } => arrivals.push(hop),
+                Event::Send { source, group, word } => sends.push((source, group, word)),
             }
         }
         let log = |unit| run.bench.log(unit, &run.book).to_vec();
@@ -38,7 +38,7 @@ impl Run {
 /// The calls of either side, and rounds of them.
 trait Bench {
     fn fresh(&mut self, run: &Run);
-    fn send(&mut self, send: [u16; 3]);
+    fn send(&mut self, send: (u16, u16, u32));
     fn arrive(&mut self, hop: u16);
     fn log(&self, unit: u16) -> Vec<u16>;
     fn look(&self, unit: u16);
@@ -67,7 +67,7 @@ impl Bench for scrollcairn::Bench {
         *self = opened(run);
     }
 
-    fn send(&mut self, [source, group, word]: [u16; 3]) {
+    fn send(&mut self, (source, group, word): (u16, u16, u32)) {
         black_box(self.send(source, group, word)).expect("room");
     }
 
@@ -100,7 +100,7 @@ impl Bench for baseline::Bench {
         self.reset(forest.units, run.groups(), &parents);
     }
 
-    fn send(&mut self, [source, group, _]: [u16; 3]) {
+    fn send(&mut self, (source, group, _): (u16, u16, u32)) {
         black_box(self.send(source, group)).expect("room");
     }
 
@@ -166,9 +166,9 @@ fn open(run: &Run) -> (f64, f64) {
 /// One call more after 3,000 where all are run again, by scrollcairn_calls.
 fn again(run: &Run) -> (f64, f64) {
     let hops: Vec<u16> = run.arrivals.iter().copied().cycle().take(EVENTS + 1 - run.sends.len()).collect();
-    let whole = |kind, [a, b, c]: [u16; 3]| [kind, a, b, c, HOPS as u16, BOOK as u16];
+    let whole = |kind, (a, b, c): (u16, u16, u32)| [kind, a.into(), b.into(), c, HOPS as u32, BOOK as u32];
     let sends = run.sends.iter().map(|&send| whole(0, send));
-    let numbers: Vec<u16> = sends.chain(hops.iter().map(|&hop| whole(1, [hop, 0, 0]))).flatten().collect();
+    let numbers: Vec<u32> = sends.chain(hops.iter().map(|&hop| whole(1, (hop, 0, 0)))).flatten().collect();
     let mut lists = replay::Lists::filled(0, EVENTS + 1);
     let Content { units, groups, count, parents, .. } = &run.forest;
     let fresh = replay::Fresh { units: *units, groups, count: *count, parents, hops: HOPS, book: BOOK };

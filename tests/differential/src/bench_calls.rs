@@ -45,7 +45,7 @@ pub struct Kept {
     pub totals: [u16; 4],
     pub log_lengths: [u16; UNITS],
     /// sources, groups, words; 0 past the messages sent
-    pub messages: [[u16; MESSAGES]; 3],
+    pub messages: [[u32; MESSAGES]; 3],
     /// hops made and hops taken, by sender and receiver
     pub pairs: [[[u16; UNITS]; UNITS]; 2],
 }
@@ -61,7 +61,7 @@ fn taken<'a>(bench: &Bench, hops: &'a [Hop]) -> impl Iterator<Item = &'a Hop> {
 }
 
 pub fn kept(bench: &Bench, hops: &[Hop], book: &[u16]) -> Kept {
-    let field = |of: fn(&Message) -> u16| std::array::from_fn(|at| bench.messages().get(at).map_or(0, of));
+    let field = |of: fn(&Message) -> u32| std::array::from_fn(|at| bench.messages().get(at).map_or(0, of));
     let made = |sender| std::array::from_fn(|receiver| bench.pair_count(sender, receiver));
     let mut pairs = [std::array::from_fn(made), [[0; UNITS]; UNITS]];
     for hop in taken(bench, hops) {
@@ -70,7 +70,11 @@ pub fn kept(bench: &Bench, hops: &[Hop], book: &[u16]) -> Kept {
     Kept {
         totals: totals(bench, hops),
         log_lengths: std::array::from_fn(|unit| bench.log_length(unit as u16, book).unwrap_or(0)),
-        messages: [field(|message| message.source), field(|message| message.group), field(|message| message.word)],
+        messages: [
+            field(|message| message.source.into()),
+            field(|message| message.group.into()),
+            field(|message| message.word),
+        ],
         pairs,
     }
 }

@@ -24,7 +24,7 @@ pub struct LentCall {
 
 impl LentCall {
     /// The six numbers of the header.
-    pub fn numbers(&self) -> [u16; 6] {
+    pub fn numbers(&self) -> [u32; 6] {
         let (kind, a, b, c) = match self.call {
             Call::Send { source, group, word } => (0, source, group, word),
             Call::Arrive { hop } => (1, hop, 0, 0),
@@ -32,7 +32,7 @@ impl LentCall {
             Call::LogLength { unit } => (3, unit, 0, 0),
             Call::Rest { kind } => (kind, 0, 0, 0),
         };
-        [kind, a, b, c, self.hops, self.book]
+        [kind.into(), a.into(), b.into(), c, self.hops.into(), self.book.into()]
     }
 }
 
@@ -79,8 +79,8 @@ fn of_file(file: &[u8]) -> (Table, [u8; UNITS], Vec<LentCall>) {
     let run = model::program::run(file).run.expect("a good file");
     let Content { units, groups, count, .. } = run.content;
     let call = |event: Event| match event {
-        [0, hop, _] => Call::Arrive { hop },
-        [source, group, word] => Call::Send { source: source - 1, group, word },
+        Event::Arrive { hop } => Call::Arrive { hop },
+        Event::Send { source, group, word } => Call::Send { source, group, word },
     };
     let mut calls: Vec<LentCall> = run.events.iter().map(|(event, _)| whole(call(*event))).collect();
     calls.extend(looks(units));

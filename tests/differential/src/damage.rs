@@ -254,7 +254,7 @@ fn event(random: &mut Random, odd: usize, units: usize, groups: usize) -> String
         return format!("arrive={}\n", number(random, odd, 0, 6));
     }
     let mut numbers =
-        vec![number(random, odd, 0, units), number(random, odd, 0, groups), number(random, odd, 0, 65_535)];
+        vec![number(random, odd, 0, units), number(random, odd, 0, groups), number(random, odd, 0, 4_294_967_295)];
     if random.percent(odd) {
         numbers.push("0".to_string());
     }

@@ -1,7 +1,9 @@
-//! Writes bench files with what the model prints for them: 0.bench, 0.out, 1.bench and so on.
+//! Writes bench files with what the model prints for them: 0.bench, 0.out, 1.bench and so on; then place-0.bench and so on, with a number
+//! at a limit in each place.
 
 use crate::random::Random;
 use crate::{cases, damage, files};
+use model::places;
 use std::fs;
 use std::path::Path;
 
@@ -9,12 +11,17 @@ pub fn emit(dir: &Path, number: u64, seed: u64) -> std::io::Result<()> {
     fs::create_dir_all(dir)?;
     for case in 0..number {
         let mut random = Random::new(seed, case);
-        let file = file(&mut random, case);
-        fs::write(dir.join(format!("{case}.bench")), &file)?;
-        let printed = model::program::run(&file).bytes;
-        fs::write(dir.join(format!("{case}.out")), printed)?;
+        write(dir, &case.to_string(), &file(&mut random, case))?;
+    }
+    for (at, file) in places::files().enumerate() {
+        write(dir, &format!("place-{at}"), file.as_bytes())?;
     }
     Ok(())
+}
+
+fn write(dir: &Path, name: &str, file: &[u8]) -> std::io::Result<()> {
+    fs::write(dir.join(format!("{name}.bench")), file)?;
+    fs::write(dir.join(format!("{name}.out")), model::program::run(file).bytes)
 }
 
 /// Mostly short runs in which much happens; beside them refused files, and one in ten of any kind, long ones among them.

@@ -137,7 +137,7 @@ pub fn full(random: &mut Random) -> Vec<u8> {
             Some(_) if mixed && random.percent(80) => driver.next(random),
             _ => {
                 sent += 1;
-                Call::Send { source: source as u16, group: group as u16, word: random.below(10) as u16 }
+                Call::Send { source: source as u16, group: group as u16, word: random.below(10) as u32 }
             }
         };
         let Some(line) = event(call) else { continue };

@@ -7,7 +7,7 @@ mod live;
 pub use any_content::any_content;
 pub use live::live;
 
-use crate::calls::{Input, Lists};
+use crate::calls::{Input, LentCall, Lists};
 use crate::random::Random;
 use crate::table::Table;
 use crate::tally::Tally;
@@ -129,9 +129,9 @@ pub fn read_and_write(file: &[u8], random: &mut Random, tally: &mut Tally) -> Re
 }
 
 /// What was read, and the event list; none where it was refused.
-fn read(file: &[u8], random: &mut Random, tally: &mut Tally) -> Result<Option<(Content, Vec<u16>)>, String> {
+fn read(file: &[u8], random: &mut Random, tally: &mut Tally) -> Result<Option<(Content, Vec<u32>)>, String> {
     let length = length(random, EVENT_NUMBERS);
-    let mut left = random.rubbish(length);
+    let mut left = random.wide_rubbish(length);
     let mut list = left.clone();
     let before = rubbish_content(random);
     let mut content = before.clone();
@@ -156,7 +156,7 @@ fn read(file: &[u8], random: &mut Random, tally: &mut Tally) -> Result<Option<(C
 }
 
 /// The bytes written; none where it was refused.
-fn write(content: &Content, list: &[u16], random: &mut Random, tally: &mut Tally) -> Result<Option<Vec<u8>>, String> {
+fn write(content: &Content, list: &[u32], random: &mut Random, tally: &mut Tally) -> Result<Option<Vec<u8>>, String> {
     let lent = length(random, EVENT_NUMBERS).min(list.len());
     let length = length(random, FILE);
     let mut left = rubbish_bytes(random, length);
@@ -181,7 +181,7 @@ fn write_rubbish(random: &mut Random) -> Result<(), String> {
     if random.percent(50) {
         content.counts = [32, 24, random.below(2) as u16, 3_000];
     }
-    let list = random.rubbish(EVENT_NUMBERS + 10);
+    let list = random.wide_rubbish(EVENT_NUMBERS + 10);
     let before = rubbish_bytes(random, FILE + 50);
     let mut out = before.clone();
     match scrollcairn::write(&content, &list, &mut out) {
@@ -232,6 +232,15 @@ pub fn check(
     same_forest("check", answer, &parents, &before, expected)
 }
 
+/// A call with a greater number in each place that has 65,535, the word's aside: it must make no difference.
+fn with_greater(numbers: [u32; 6], at: usize) -> [u32; 6] {
+    const WORD: usize = 3;
+    std::array::from_fn(|place| match numbers[place] {
+        65_535 if place != WORD => u32::MAX - at as u32,
+        number => number,
+    })
+}
+
 /// scrollcairn_calls.
 pub fn calls(input: &Input, expected_answer: [u64; 3], expected: &Lists, tally: &mut Tally) -> Result<(), String> {
     let fresh = ::replay::Fresh {
@@ -242,7 +251,8 @@ pub fn calls(input: &Input, expected_answer: [u64; 3], expected: &Lists, tally: 
         hops: input.fresh_hops,
         book: input.fresh_book,
     };
-    let calls: Vec<u16> = input.calls.iter().flat_map(|call| call.numbers()).collect();
+    let numbers = |(at, call): (usize, &LentCall)| with_greater(call.numbers(), at);
+    let calls: Vec<u32> = input.calls.iter().enumerate().flat_map(numbers).collect();
     let mut lists = ::replay::Lists {
         book: input.lists.book.clone(),
         hops: input.lists.hops.clone(),

@@ -3,6 +3,7 @@
 use crate::bench_calls::arrive_numbers;
 use crate::tally::Tally;
 use model::bench::{ArriveReply, TAKEN};
+use model::file::Event;
 use model::program::{Outcome, Printed, Run};
 
 /// Counts the refusals and replies of a file.
@@ -67,11 +68,11 @@ fn log(line: &str) -> Option<Vec<u16>> {
 
 /// The events with their answers.
 fn calls(run: &Run) -> Vec<checker::Call> {
-    let call = |(event, outcome): &([u16; 3], Outcome)| match (*event, *outcome) {
-        ([0, _, _], Outcome::Arrived(ArriveReply::Taken(taken))) => checker::Call::Arrive { taken },
-        ([0, _, _], _) => checker::Call::Arrive { taken: 0 },
-        ([source, group, _], outcome) => checker::Call::Send {
-            source: source - 1,
+    let call = |(event, outcome): &(Event, Outcome)| match (*event, *outcome) {
+        (Event::Arrive { .. }, Outcome::Arrived(ArriveReply::Taken(taken))) => checker::Call::Arrive { taken },
+        (Event::Arrive { .. }, _) => checker::Call::Arrive { taken: 0 },
+        (Event::Send { source, group, .. }, outcome) => checker::Call::Send {
+            source,
             group,
             message: match outcome {
                 Outcome::Sent(message) => Some(message),

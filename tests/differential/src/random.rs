@@ -40,6 +40,11 @@ impl Random {
         choices[self.below(choices.len())]
     }
 
+    /// A word: of any length, so that short ones are met as often as long ones.
+    pub fn word(&mut self) -> u32 {
+        self.next() as u32 >> self.below(32)
+    }
+
     /// Rubbish, for lists that a call may not touch.
     pub fn rubbish(&mut self, length: usize) -> Vec<u16> {
         (0..length).map(|_| self.next() as u16).collect()

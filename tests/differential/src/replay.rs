@@ -87,9 +87,9 @@ fn run_call(
 /// The list `bench` of the header.
 fn bench_numbers(bench: &Bench, hops: &[Hop], book: &[u16]) -> Vec<u32> {
     let kept = bench_calls::kept(bench, hops, book);
-    let pairs = kept.pairs.as_flattened().as_flattened();
-    let numbers = [&kept.totals[..], &kept.log_lengths, kept.messages.as_flattened(), pairs].concat();
-    numbers.into_iter().map(u32::from).collect()
+    let wide = |numbers: &[u16]| -> Vec<u32> { numbers.iter().map(|&number| number.into()).collect() };
+    let pairs = wide(kept.pairs.as_flattened().as_flattened());
+    [&wide(&kept.totals)[..], &wide(&kept.log_lengths), kept.messages.as_flattened(), &pairs].concat()
 }
 
 /// Takes the replies apart. The last log of each unit and the last rest count: they come after all sends and arrivals.

@@ -1,15 +1,19 @@
-//! Every input of a small size, through the baseline and the library; the program is left out, since a process for each would take too
-//! long.
+//! Numbers at the limits in each place of each line. Every input of a small size, through the baseline and the library; the program is left
+//! out there, since a process for each would take too long.
 
 use crate::cases::{self, Difference, Subjects};
 use crate::random::Random;
 use crate::table::Table;
 use crate::tally::Tally;
-use model::{GROUPS, ROOT, UNITS};
+use model::{places, GROUPS, ROOT, UNITS};
 
 pub fn run(subjects: &Subjects, tally: &mut Tally) -> Result<(), Difference> {
-    let subjects = Subjects { program: None, library: subjects.library };
     let random = &mut Random::new(0, 0);
+    for file in places::files() {
+        tally.case("a number in each place");
+        cases::compare_file(file.as_bytes(), random, subjects, tally)?;
+    }
+    let subjects = Subjects { program: None, library: subjects.library };
     for units in 1..=4 {
         for table in tables(units, 3) {
             tally.case("small: build");

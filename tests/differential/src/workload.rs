@@ -7,7 +7,7 @@ use model::{BOOK, HOPS};
 
 #[derive(Clone, Copy, Debug, PartialEq, Eq)]
 pub enum Call {
-    Send { source: u16, group: u16, word: u16 },
+    Send { source: u16, group: u16, word: u32 },
     Arrive { hop: u16 },
     Log { unit: u16 },
     LogLength { unit: u16 },
@@ -148,7 +148,7 @@ impl Driver {
     }
 
     fn send(&self, random: &mut Random) -> Call {
-        let word = random.next() as u16;
+        let word = random.word();
         let (source, group) = match self.style.focus {
             Some(focus) if random.percent(80) => focus,
             _ => (random.below(self.units()) as u16, random.below(self.groups().max(1)) as u16),
@@ -168,7 +168,7 @@ impl Driver {
             _ => random.below(limit.max(1)) as u16,
         };
         let (source, group, hop) = (near(units), near(groups), near(made));
-        let word = random.next() as u16;
+        let word = random.word();
         match random.percent(50) {
             true => Call::Arrive { hop },
             false => Call::Send { source, group, word },

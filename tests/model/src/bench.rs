@@ -22,7 +22,7 @@ pub const TAKEN: u16 = 2;
 pub struct Message {
     pub source: u16,
     pub group: u16,
-    pub word: u16,
+    pub word: u32,
 }
 
 #[derive(Clone, Copy, Debug, PartialEq, Eq)]
@@ -67,7 +67,7 @@ impl Bench {
     }
 
     /// Send: the message is recorded, with a hop in state out to the primary of its group.
-    pub fn send(&mut self, source: u16, group: u16, word: u16, hops: &mut [Hop]) -> Result<u16, Refusal> {
+    pub fn send(&mut self, source: u16, group: u16, word: u32, hops: &mut [Hop]) -> Result<u16, Refusal> {
         lent_hops(hops)?;
         if source as usize >= self.forest.units() {
             return Err(Refusal::plain(12));

@@ -1,6 +1,8 @@
-//! Document 01, "The bench file": reading and writing. A file is refused for its first bad line, and there for the lowest number.
+//! Document 01, "The bench file", and document 02, #101: reading and writing. A file is refused for its first bad line, and there for the
+//! lowest number.
 
 use crate::{Refusal, EVENTS, EVENT_NUMBERS, FILE, GROUPS, ROOT, UNITS};
+use std::str::FromStr;
 
 /// What a file says beside its events. Places of groups that do not count are 0; parents are 255 for roots, past the units, and where the
 /// file says `build`.
@@ -21,26 +23,39 @@ impl Content {
     }
 }
 
-/// Of a send source+1, group and word; of an arrival 0, hop and 0.
-pub type Event = [u16; 3];
+#[derive(Clone, Copy, Debug, PartialEq, Eq)]
+pub enum Event {
+    Send { source: u16, group: u16, word: u32 },
+    Arrive { hop: u16 },
+}
+
+impl Event {
+    /// Its three numbers in the list: of a send source+1, group and word; of an arrival 0, hop and 0.
+    pub fn numbers(self) -> [u32; 3] {
+        match self {
+            Event::Send { source, group, word } => [u32::from(source) + 1, group.into(), word],
+            Event::Arrive { hop } => [0, hop.into(), 0],
+        }
+    }
+}
 
 /// Reads a file into a content and a lent event list. Refusals 1 to 9; a refused file leaves the list as it was.
-pub fn read(file: &[u8], list: &mut [u16]) -> Result<Content, Refusal> {
+pub fn read(file: &[u8], list: &mut [u32]) -> Result<Content, Refusal> {
     if list.len() < EVENT_NUMBERS {
         return Err(Refusal::plain(1));
     }
-    if file.len() > FILE {
-        return Err(Refusal::plain(2));
-    }
     let (content, events) = read_lines(file)?;
-    for (at, event) in events.iter().enumerate() {
-        list[3 * at..3 * at + 3].copy_from_slice(event);
+    for (numbers, event) in list.chunks_mut(3).zip(events) {
+        numbers.copy_from_slice(&event.numbers());
     }
     Ok(content)
 }
 
-/// The lines, by their places.
-fn read_lines(file: &[u8]) -> Result<(Content, Vec<Event>), Refusal> {
+/// What a file says, its lines read by their places. Refusals 2 to 9.
+pub fn read_lines(file: &[u8]) -> Result<(Content, Vec<Event>), Refusal> {
+    if file.len() > FILE {
+        return Err(Refusal::plain(2));
+    }
     let mut lines = Lines::new(file);
     let units = lines.read(units_line)?;
     let count = lines.read(groups_line)?;
@@ -96,7 +111,7 @@ impl<'a> Lines<'a> {
 /// `units=`: 3, 4, 5.
 fn units_line(line: &[u8]) -> Result<usize, u16> {
     let value = after_key(line, b"units=").ok_or(3u16)?;
-    let units = decimal(value).ok_or(4u16)? as usize;
+    let units = decimal::<u16>(value).ok_or(4u16)? as usize;
     match units == 0 || units > UNITS {
         true => Err(5),
         false => Ok(units),
@@ -106,7 +121,7 @@ fn units_line(line: &[u8]) -> Result<usize, u16> {
 /// `groups=`: 3, 4, 5.
 fn groups_line(line: &[u8]) -> Result<usize, u16> {
     let value = after_key(line, b"groups=").ok_or(3u16)?;
-    let groups = decimal(value).ok_or(4u16)? as usize;
+    let groups = decimal::<u16>(value).ok_or(4u16)? as usize;
     match groups > GROUPS {
         true => Err(5),
         false => Ok(groups),
@@ -116,7 +131,7 @@ fn groups_line(line: &[u8]) -> Result<usize, u16> {
 /// `group=`, its members in rising order: 3, 4, 6, 7.
 fn group_line(line: &[u8], units: usize) -> Result<u32, u16> {
     let value = after_key(line, b"group=").ok_or(3u16)?;
-    let members = entries(value, decimal).ok_or(4u16)?;
+    let members = entries(value, decimal::<u16>).ok_or(4u16)?;
     if members.iter().any(|&member| member as usize >= units) {
         return Err(6);
     }
@@ -134,7 +149,7 @@ fn parents_line(line: &[u8], units: usize) -> Result<Option<[u8; UNITS]>, u16> {
     }
     let entry = |text: &[u8]| match text {
         b"-" => Some(None),
-        number => decimal(number).map(Some),
+        number => decimal::<u16>(number).map(Some),
     };
     let drawn = entries(value, entry).ok_or(4u16)?;
     if drawn.iter().flatten().any(|&parent| parent as usize >= units) {
@@ -154,7 +169,7 @@ fn parents_line(line: &[u8], units: usize) -> Result<Option<[u8; UNITS]>, u16> {
 fn event_line(line: &[u8], events_before: usize) -> Result<Event, u16> {
     let event = match (after_key(line, b"send="), after_key(line, b"arrive=")) {
         (Some(value), _) => send_event(value).ok_or(4u16)?,
-        (_, Some(value)) => [0, decimal(value).ok_or(4u16)?, 0],
+        (_, Some(value)) => Event::Arrive { hop: decimal(value).ok_or(4u16)? },
         _ => return Err(3),
     };
     match events_before >= EVENTS {
@@ -163,13 +178,14 @@ fn event_line(line: &[u8], events_before: usize) -> Result<Event, u16> {
     }
 }
 
-/// A source of 65,535 has no number one higher: it is badly written.
+/// Three numbers, the last of up to 32 bits. A source of 65,535 is badly written.
 fn send_event(value: &[u8]) -> Option<Event> {
-    let numbers = entries(value, decimal)?;
-    match numbers[..] {
-        [source, group, word] if source < 65_535 => Some([source + 1, group, word]),
-        _ => None,
-    }
+    let texts: Vec<&[u8]> = value.split(|&byte| byte == b',').collect();
+    let [source, group, word] = texts[..] else {
+        return None;
+    };
+    let (source, group, word) = (decimal(source)?, decimal(group)?, decimal(word)?);
+    (source < 65_535).then_some(Event::Send { source, group, word })
 }
 
 /// The bytes after a key.
@@ -182,19 +198,19 @@ fn entries<T>(value: &[u8], entry: impl Fn(&[u8]) -> Option<T>) -> Option<Vec<T>
     value.split(|&byte| byte == b',').map(entry).collect()
 }
 
-/// A decimal number without leading zeros, up to 65,535.
-fn decimal(text: &[u8]) -> Option<u16> {
+/// A decimal number without leading zeros, up to the largest of its type: 65,535, or of a word 4,294,967,295.
+fn decimal<T: FromStr>(text: &[u8]) -> Option<T> {
     if text.is_empty() || !text.iter().all(u8::is_ascii_digit) {
         return None;
     }
     if text.len() > 1 && text[0] == b'0' {
         return None;
     }
-    std::str::from_utf8(text).ok()?.parse::<u16>().ok()
+    std::str::from_utf8(text).ok()?.parse().ok()
 }
 
 /// The writer puts the lines of a content first in the list of bytes, and answers their length. Refusal 1.
-pub fn write(content: &Content, list: &[u16], out: &mut [u8]) -> Result<usize, Refusal> {
+pub fn write(content: &Content, list: &[u32], out: &mut [u8]) -> Result<usize, Refusal> {
     if list.len() < EVENT_NUMBERS || out.len() < FILE {
         return Err(Refusal::plain(1));
     }
@@ -204,7 +220,7 @@ pub fn write(content: &Content, list: &[u16], out: &mut [u8]) -> Result<usize, R
 }
 
 /// The lines of a content and its events.
-pub fn lines_of(content: &Content, list: &[u16]) -> String {
+pub fn lines_of(content: &Content, list: &[u32]) -> String {
     let mut text = format!("units={}\ngroups={}\n", content.units, content.count);
     for group in &content.groups[..content.count] {
         let members = (0..UNITS).filter(|unit| group >> unit & 1 == 1);

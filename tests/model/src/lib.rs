@@ -1,8 +1,10 @@
-//! A plain model of document 01, written from its text: each function says in its comment which rule it follows. Speed does not matter.
+//! A plain model of document 01, and of the change requests of document 02 that are done, written from their text: each function says in its
+//! comment which rule it follows. Speed does not matter.
 
 pub mod bench;
 pub mod file;
 pub mod forest;
+pub mod places;
 pub mod program;
 
 /// At most so many units, groups, messages, hops, events.

@@ -3,7 +3,7 @@
 use crate::bench::{ArriveReply, Bench, Hop};
 use crate::file::{self, Content, Event};
 use crate::forest;
-use crate::{Refusal, BOOK, EVENT_NUMBERS, HOPS};
+use crate::{Refusal, BOOK, HOPS};
 
 /// An event's outcome.
 #[derive(Clone, Copy, Debug, PartialEq, Eq)]
@@ -40,8 +40,7 @@ pub fn run(file: &[u8]) -> Printed {
 
 /// The forest comes after the file: it is looked at once no line is refused, and its own refusal names the line of `parents=`.
 fn run_file(file: &[u8]) -> Result<Run, Refusal> {
-    let mut list = vec![0; EVENT_NUMBERS];
-    let content = file::read(file, &mut list)?;
+    let (content, events) = file::read_lines(file)?;
     let forest = match content.build {
         true => forest::build(content.units, &content.groups, content.count),
         false => forest::check(content.units, &content.groups, content.count, &content.parents),
@@ -50,19 +49,15 @@ fn run_file(file: &[u8]) -> Result<Run, Refusal> {
     let mut hops = vec![Hop::default(); HOPS];
     let mut book = vec![0; BOOK];
     let mut bench = Bench::fresh(forest, &mut hops, &mut book)?;
-    let mut events = Vec::new();
-    for event in list[..3 * content.events].chunks(3) {
-        let event = [event[0], event[1], event[2]];
-        let outcome = run_event(event, &mut bench, &mut hops, &mut book);
-        events.push((event, outcome));
-    }
+    let run = |event| (event, run_event(event, &mut bench, &mut hops, &mut book));
+    let events = events.into_iter().map(run).collect();
     Ok(Run { content, bench, hops, book, events })
 }
 
 fn run_event(event: Event, bench: &mut Bench, hops: &mut [Hop], book: &mut [u16]) -> Outcome {
     let outcome = match event {
-        [0, hop, _] => bench.arrive(hop, hops, book).map(Outcome::Arrived),
-        [source, group, word] => bench.send(source - 1, group, word, hops).map(Outcome::Sent),
+        Event::Arrive { hop } => bench.arrive(hop, hops, book).map(Outcome::Arrived),
+        Event::Send { source, group, word } => bench.send(source, group, word, hops).map(Outcome::Sent),
     };
     outcome.unwrap_or_else(|refusal| Outcome::Refused(refusal.number))
 }

@@ -1,8 +1,9 @@
-//! Refusals of files, line by line, and of lent lists, as document 01 and the readings of its open points have them.
+//! Refusals of files, line by line, and of lent lists, as documents 01 and 02 and the readings of their open points have them.
 
 use model::bench::{Bench, Hop};
 use model::file;
 use model::forest::{build, check};
+use model::places::{NUMBERS, PLACES, WORD};
 use model::program::run;
 use model::{Refusal, BOOK, EVENT_NUMBERS, FILE, GROUPS, HOPS, ROOT, UNITS};
 
@@ -88,6 +89,32 @@ fn refused_events() {
     assert_eq!(prints(&file), format!("{expected}log=0\nhops=0\nrest=yes\n"));
 }
 
+/// What 65,535 prints in each place. A larger number is badly written, but for the word, which takes up to 4,294,967,295.
+const PRINTED_AT_65535: [&str; 10] = [
+    "refused=1,5\n",
+    "refused=2,5\n",
+    "refused=3,6\n",
+    "refused=3,6\n",
+    "refused=3,6\n",
+    "refused=3,6\n",
+    "refused=5,4\n",
+    "refused=5,13\nlog=0\nhops=0\nrest=yes\n",
+    "log=0\nhops=1\nrest=no\n",
+    "refused=5,16\nlog=0\nhops=0\nrest=yes\n",
+];
+
+#[test]
+fn numbers_in_every_place() {
+    for (place, (before, behind)) in PLACES.iter().enumerate() {
+        let bad = format!("refused={},4\n", 1 + before.matches('\n').count());
+        for (at, number) in NUMBERS.iter().enumerate() {
+            let largest = if place == WORD { 2 } else { 0 };
+            let expected = if at <= largest { PRINTED_AT_65535[place] } else { &bad };
+            assert_eq!(prints(&format!("{before}{number}{behind}")), expected, "{number} behind {before:?}");
+        }
+    }
+}
+
 #[test]
 fn forest_calls_in_order() {
     let table = |first: u32| {
@@ -136,10 +163,10 @@ fn lists_too_short() {
 
 #[test]
 fn round_trip_and_what_stays() {
-    let text = "units=3\ngroups=1\ngroup=0,2\nparents=-,0,0\nsend=65534,65535,9\narrive=8\n";
+    let text = "units=3\ngroups=1\ngroup=0,2\nparents=-,0,0\nsend=65534,65535,4294967295\narrive=8\n";
     let mut list = vec![77; EVENT_NUMBERS + 1];
     let content = file::read(text.as_bytes(), &mut list).unwrap();
-    assert_eq!(list[..7], [65_535, 65_535, 9, 0, 8, 0, 77]);
+    assert_eq!(list[..7], [65_535, 65_535, 4_294_967_295, 0, 8, 0, 77]);
     let mut out = vec![b'?'; FILE];
     let bytes = file::write(&content, &list, &mut out).unwrap();
     assert_eq!(out[..bytes], *text.as_bytes());

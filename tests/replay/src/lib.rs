@@ -20,7 +20,7 @@ extern "C" {
         parents: *const [u8; 32],
         fresh_hops: usize,
         fresh_book: usize,
-        calls: *const u16,
+        calls: *const u32,
         calls_length: usize,
         book: *mut u16,
         book_length: usize,
@@ -73,7 +73,7 @@ pub struct CallsAnswer {
 }
 
 /// Makes a fresh bench and runs a list of calls on it, [`CALL_NUMBERS`] each; refused, the three numbers of the answer.
-pub fn calls(fresh: &Fresh, calls: &[u16], lists: &mut Lists) -> Result<CallsAnswer, [u64; 3]> {
+pub fn calls(fresh: &Fresh, calls: &[u32], lists: &mut Lists) -> Result<CallsAnswer, [u64; 3]> {
     let mut answer = [0; 3];
     // SAFETY: pointers with lengths come from slices, the others are references to arrays of the header's lengths; the four lists written
     // to are distinct vectors behind one mutable borrow.

@@ -9,11 +9,11 @@ const RACK: &[u8] = include_bytes!("../../../examples/rack-of-four.bench");
 fn p8_as_calls() {
     let mut rack = Content::default();
     read(RACK, &mut [0; EVENTS], &mut rack).unwrap();
-    let whole = |kind, a, b, c| [kind, a, b, c, HOPS as u16, BOOK as u16];
-    let sends = [whole(0, 3, 0, 500), whole(0, 4, 9, 0), whole(0, 1, 2, 600)];
+    let whole = |kind, a, b, c| [kind, a, b, c, HOPS as u32, BOOK as u32];
+    let sends = [whole(0, 3, 0, 500), whole(0, 4, 9, 0), whole(0, 1, 2, u32::MAX)];
     let arrivals = [0, 0, 1, 2, 4, 3].map(|hop| whole(1, hop, 0, 0));
     let looks = [whole(2, 3, 0, 0), whole(3, 3, 0, 0), whole(3, 4, 0, 0), whole(4, 0, 0, 0)];
-    let numbers: Vec<u16> = [&sends[..], &arrivals, &looks].concat().concat();
+    let numbers: Vec<u32> = [&sends[..], &arrivals, &looks].concat().concat();
     let mut lists = Lists::filled(7, 13);
     let (groups, parents) = (&rack.groups, &rack.parents);
     let fresh = Fresh { units: 4, groups, count: 4, parents, hops: HOPS_LENT, book: BOOK };
@@ -27,7 +27,7 @@ fn p8_as_calls() {
     let left = Left::from_numbers(&lists.bench);
     assert_eq!((left.hops_made, left.hops_taken), (5, 5));
     assert_eq!((left.messages, left.route_sizes), (2, 5));
-    assert_eq!(left.words[..3], [500, 600, 0]);
+    assert_eq!(left.words[..3], [500, u32::MAX, 0]);
     assert_eq!(left.log_lengths[..5], [1, 0, 1, 2, 0]);
     assert_eq!((left.pairs_made[2 * UNITS + 3], left.pairs_taken[2 * UNITS + 3]), (2, 2));
 }

@@ -1,5 +1,6 @@
 -- The loop's invariant: with the messages from `i` on written from `next` on, all are written from `at` on.
 use borrow.Author.Needs.{needs}
+use native.Mathlib.Omega.{arith}
 use Prim.Native.Nat.{_-_}
 use lib.ListN.{length, drop}
 use Rattle.text.proofs.Written.{written-append, written-length}
@@ -26,6 +27,9 @@ mul-put-number c = search needs
 
 shared-slice-read-put-number : tie.Need-shared-slice-read-put-number Inv-loop μ-loop
 shared-slice-read-put-number c = search needs
+
+cast-put-number : tie.Need-cast-put-number Inv-loop μ-loop
+cast-put-number c = omega (arith, c .shared-slice-known2 .given (c .before .before .before .before .before .before .before .loop .i))
 
 put-number-requires : tie.Need-put-number-requires Inv-loop μ-loop
 put-number-requires c κs = search needs
@@ -60,6 +64,7 @@ put-messages-spec =
     put-requires
     mul-put-number
     shared-slice-read-put-number
+    cast-put-number
     put-number-requires
     add-i
     loop-less

@@ -56,8 +56,9 @@ fn any_call(totals: Totals, random: &mut Random) -> Call {
         true => random.next() as u16,
         false => random.below(limit) as u16,
     };
-    let (unit, group, word) = (below(34), below(26), below(65_536));
+    let (unit, group) = (below(34), below(26));
     let hop = below(usize::from(totals.made).min(2_000) + 2);
+    let word = random.word();
     match random.below(8) {
         0 | 1 => Call::Send { source: unit, group, word },
         2..=4 => Call::Arrive { hop },

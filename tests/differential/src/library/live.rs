@@ -201,8 +201,7 @@ impl Run {
     fn same(&self) -> Result<(), String> {
         let kept = bench_calls::kept(&self.bench, &self.hops, &self.book);
         let mut expected = self.base.clone();
-        let messages = kept.messages.as_flattened().iter();
-        expected.messages.splice(..3 * MESSAGES, messages.map(|&number| number.into()));
+        expected.messages.splice(..3 * MESSAGES, kept.messages.as_flattened().iter().copied());
         expected.pairs.splice(..kept.pairs.len(), kept.pairs);
         expected.gauges.splice(..kept.log_lengths.len(), kept.log_lengths);
         expected.hops.splice(..HOPS, self.hops.iter().map(header_hop));

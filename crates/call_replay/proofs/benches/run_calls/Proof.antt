@@ -9,6 +9,7 @@ use Rattle.hand_proofs.proofs.Prelude.{Views, Handed, Fit, contractOf, calls, c
 use Rattle.hand_proofs.proofs.Prelude.{RelationalDuty, Goes-related, starts-related, duty-related, Done-related, concludes, own-tables}
 use Rattle.hand_proofs.proofs.Prelude.{proved-own-related, var, ptr-of, slice-of, _&_, sets, into, into-last, Holding, empty, holds, envAt}
 use Rattle.hand_proofs.proofs.Prelude.{stack, Blocks, leaves, while-test, Turned}
+use denote.Builtin.{u32}
 use mathlib.Core.Bool.{true, not}
 use mathlib.Core.Path.{ap}
 use mathlib.Core.Logic.{by-cases}
@@ -111,7 +112,7 @@ module _ {M : Type 1} (𝓤 : URA M) (H : Heap 𝓤) (A : Atoms 𝓤) (W : Given
               empty ∷ empty ∷ empty ∷ []
 
           abbrev lists : Going → List (Item 𝓤)
-          lists i = ‵ (Views u16 I list) ∷ ‵ (Holds R L (i .hs)) ∷ ‵ (Holds u16 N (i .book)) ∷ ‵ (Holds u16 O (i .out)) ∷ []
+          lists i = ‵ (Views u32 I list) ∷ ‵ (Holds R L (i .hs)) ∷ ‵ (Holds u16 N (i .book)) ∷ ‵ (Holds u16 O (i .out)) ∷ []
 
           -- the invariant: [the list; the hops; the book; the replies; the locals, the last first]
           abbrev At : Going → List (Item 𝓤)

@@ -8,6 +8,7 @@ use Rattle.hand_proofs.proofs.Prelude.{Holds, Views, Handed, Fit, contractOf, c
 use Rattle.hand_proofs.proofs.Prelude.{RelationalDuty, Goes-related, starts-related, duty-related, concludes, own-tables}
 use Rattle.hand_proofs.proofs.Prelude.{proved-own-related, var, ptr-of, len-of, slice-of, big-lit, _&_, equals, sets, into, full, leaves}
 use Rattle.hand_proofs.proofs.Prelude.{repeated, repeats, array-loan, lends-array, array-back, front-loan, lends-front, front-back}
+use denote.Builtin.{u32}
 use Prim.Native.Nat.{min}
 use mathlib.Core.List.{_++_}
 use mathlib.Core.Path.{sym, subst}
@@ -126,7 +127,7 @@ module _ {M : Type 1} (𝓤 : URA M) (H : Heap 𝓤) (A : Atoms 𝓤) (W : Given
       -- [numbers; list; book; replies; the locals]
       sets ! (of-opd ! (var ! 36 refl)) (init ! 68 refl (stored W by-ended end end-is .0)) $ returns ! (look ! 68 refl) $
       move ! (1 ∷ 2 ∷ 3 ∷ []) $
-      leaves ! (‵ (Views u16 I list) ∷ ‵ (Holds u16 N (left .1 .0)) ∷ ‵ (Holds u16 O (left .1 .1 .0)) ∷
+      leaves ! (‵ (Views u32 I list) ∷ ‵ (Holds u16 N (left .1 .0)) ∷ ‵ (Holds u16 O (left .1 .1 .0)) ∷
       ‵ (Holds u16 Q (put .0)) ∷ [])
       locals bs
       (full locals _) tt $

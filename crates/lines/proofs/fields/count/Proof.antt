@@ -70,6 +70,9 @@ returns-4 c =
 add-t8 : tie.Need-add-t8
 add-t8 c = omega (arith, found (c .before .before .before .before .before))
 
+cast-t13 : tie.Need-cast-t13
+cast-t13 c = search needs
+
 returns-5 : tie.Need-returns-5
 returns-5 c =
     let met = c .before .before .before in
@@ -94,4 +97,5 @@ count-spec =
     faulty-requires-4
     returns-4
     add-t8
+    cast-t13
     returns-5)

@@ -5,6 +5,7 @@ use mathlib.Core.Path.{ap, _∙_}
 use Prim.Native.Nat.{_+_, _-_, _≤_}
 use lib.ListN.{length}
 use Rattle.text.specs.Text.{number}
+use Rattle.text.proofs.Numbers.{number-most}
 use Rattle.lines.specs.Lines.{numbersIn}
 use Rattle.lines.specs.Fields.{noMembers, withMember}
 use Rattle.lines.proofs.Ends.{Reading, reading-start, reading-within, reading-turn, reading-end}
@@ -56,7 +57,7 @@ number-requires : tie.Need-number-requires Inv-loop μ-loop
 number-requires c κs = search needs
 
 with-member-requires : tie.Need-with-member-requires Inv-loop μ-loop
-with-member-requires c κs = search needs
+with-member-requires c κs = rw (c .number .ensures) (number-most _)
 
 add-at : tie.Need-add-at Inv-loop μ-loop
 add-at c = omega (arith, within (c .before .before .before))

@@ -6,6 +6,7 @@ use Rattle.hand_proofs.proofs.Prelude.{agg, no-more, returns, u8, u16, Triple, 
 use Rattle.hand_proofs.proofs.Prelude.{contract-related, calls-related, Rooms, suited, RelationalDuty, Goes-related, starts-related}
 use Rattle.hand_proofs.proofs.Prelude.{duty-related, concludes, own-tables, proved-own-related, var, ptr-of, slice-of, big-lit, _&_, sets}
 use Rattle.hand_proofs.proofs.Prelude.{into, full, leaves, repeated, repeats, array-loan, lends-array, array-back}
+use denote.Builtin.{u32}
 use denote.Slice.{Room}
 use Rattle.model.specs.declared.Hop.{Hop}
 use Rattle.model.specs.Network.{noHop}
@@ -57,7 +58,7 @@ module _ {M : Type 1} (𝓤 : URA M) (H : Heap 𝓤) (A : Atoms 𝓤) (W : Given
       into ! (init ! 34 refl (stored W by-totals r r-is .0)) $ move ! (1 ∷ []) $ array-back ! tt by-hop 17 (left .0) refl (λ _.
       -- [list; book; output; the locals]
       returns ! (look ! 33 refl) $
-      leaves ! (‵ (Views u16 I list) ∷ ‵ (Holds u16 N (left .1 .0)) ∷ ‵ (Holds u8 O (left .1 .1 .0)) ∷ []) locals
+      leaves ! (‵ (Views u32 I list) ∷ ‵ (Holds u16 N (left .1 .0)) ∷ ‵ (Holds u8 O (left .1 .1 .0)) ∷ []) locals
       bs (full locals _) tt $
       concludes ! self h r (left .1 .0, (left .1 .1 .0, tt)) r-is (left .0, ran)))))
 

@@ -199,7 +199,7 @@ module _ {M : Type 1} (𝓤 : URA M) (H : Heap 𝓤) (A : Atoms 𝓤) (W : Given
       array-back ! tt by-grid 78 ps′ refl (λ _.
       -- [book; output; hops; list]
       move ! (3 ∷ 2 ∷ []) $ returns ! (look ! 104 refl) $
-      leaves ! (‵ (Views u16 I list) ∷ ‵ (Holds R L hs′) ∷ ‵ (Holds u16 N book′) ∷ ‵ (Holds u8 O (left .0)) ∷ [])
+      leaves ! (‵ (Views u32 I list) ∷ ‵ (Holds R L hs′) ∷ ‵ (Holds u16 N book′) ∷ ‵ (Holds u8 O (left .0)) ∷ [])
       locals bs (full locals _)
       tt $
       concludes ! self h r (hs′, (book′, (left .0, tt))) r-is record {

@@ -140,7 +140,7 @@ module _ {M : Type 1} (𝓤 : URA M) (H : Heap 𝓤) (A : Atoms 𝓤) (W : Given
             empty ∷ empty ∷ empty ∷ empty ∷ empty ∷ empty ∷ empty ∷ empty ∷ empty ∷ empty ∷ empty ∷ empty ∷ []
 
         abbrev lists : Going → List (Item 𝓤)
-        lists i = ‵ (Views u16 I list) ∷ ‵ (Views u32 T ts) ∷ ‵ (Holds u32 J (i .ms)) ∷ ‵ (Holds Grid K (i .ps)) ∷ ‵
+        lists i = ‵ (Views u32 I list) ∷ ‵ (Views u32 T ts) ∷ ‵ (Holds u32 J (i .ms)) ∷ ‵ (Holds Grid K (i .ps)) ∷ ‵
             (Holds u16 Q (i .gs)) ∷ ‵ (Holds R L (i .hs)) ∷
             ‵ (Holds u16 N (i .book)) ∷ ‵ (Holds u8 O (i .out)) ∷ []
 

@@ -203,7 +203,7 @@ scrollcairn_reply scrollcairn_rest(scrollcairn_totals totals, const scrollcairn_
  * snapshot, and goes its own way.
  *
  * Until it is opened its content may be anything: calls on it are safe, and what they answer is not promised. After
- * scrollcairn_bench_open or scrollcairn_bench_build replied opened, each call does exactly what document 01 says, as long as nothing else
+ * scrollcairn_bench_open or scrollcairn_bench_build replied opened, each call does exactly what the documents say, as long as nothing else
  * writes to the members; reading them is free. */
 typedef struct scrollcairn_bench {
     scrollcairn_totals totals;

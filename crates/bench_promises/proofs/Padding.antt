@@ -18,7 +18,7 @@ use Rattle.layout.proofs.Tables.{length-tabulate, getD-tabulate, tabulated, sam
 use Rattle.model.specs.declared.Message.{Message}
 use Rattle.model.specs.Network.{noMessage, messageAt}
 use Rattle.model.proofs.Hops.{length-snoc}
-use Rattle.bench_store.specs.Values.{plus, byte, filled, columnAt, withColumn, added, isPair, countIn, addedIn}
+use Rattle.bench_store.specs.Values.{capped, plus, byte, filled, columnAt, withColumn, added, isPair, countIn, addedIn}
 use Rattle.bench_promises.specs.State.{padded, pairTable, messageColumn, messageList}
 -- laws of other libraries under this crate's names
 pub use lib.ListN.{List·getD-append as append-at}
@@ -27,9 +27,13 @@ pub use Rattle.layout.proofs.Tables.{getD-tabulate as tabulate-at}
 
 -- ---- numbers within their width
 
+pub capped-small : (n : ℕ) → n < 65536 → capped n ≡ n
+unfolding capped
+capped-small n h = omega (arith, h)
+
 pub plus-small : (a b : ℕ) → a + b < 65536 → plus a b ≡ a + b
 unfolding plus
-plus-small a b h = cond-true _ _ _ (lt-ltb (a + b) 65536 h)
+plus-small a b h = capped-small (a + b) h
 
 pub byte-small : (n : ℕ) → n < 256 → byte n ≡ n
 unfolding byte

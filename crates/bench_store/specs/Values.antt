@@ -5,13 +5,13 @@ use mathlib.Core.List.{List, [], _++_}
 use lib.ListN.{length, getD, set, take, drop, replicate}
 use lib.Dec.{ltb, leb}
 
--- the sum, as far as 16 bits hold it
-unfoldable pub plus : ℕ → ℕ → ℕ
-plus a b = cond (ltb (a + b) 65536) (a + b) 65535
-
 -- a number in 16 bits; 65,535 for every greater one
 unfoldable pub capped : ℕ → ℕ
 capped n = min n 65535
+
+-- the sum, as far as 16 bits hold it
+unfoldable pub plus : ℕ → ℕ → ℕ
+plus a b = capped (a + b)
 
 -- a number below 256; 0 for any other
 unfoldable pub byte : ℕ → ℕ

@@ -1,5 +1,5 @@
-// What a bench is kept in: the limits, sums that stop at 16 bits, lists made of columns, pair counts, and the log book lent by the caller.
-// Every function is total: a place past a list reads as zeros, and nothing is stored there.
+// What a bench is kept in: the limits, numbers and sums that stop at 16 bits, lists made of columns, pair counts, and the log book
+// lent by the caller. Every function is total: a place past a list reads as zeros, and nothing is stored there.
 pub mod book;
 pub mod columns;
 pub mod counts;
@@ -23,17 +23,6 @@ impl Limits {
     pub const BOOK: usize = Limits::UNITS * Limits::MESSAGES;
 }
 
-// The sum, as far as 16 bits hold it.
-pub fn plus(a: u16, b: u16) -> u16
-    ensures { λ r. ⌜ r ≡ plusOf a b ⌝ }
-{
-    let sum = a as u32 + b as u32;
-    if sum < 65536 {
-        return sum as u16;
-    }
-    65535
-}
-
 // A number in 16 bits; 65,535 for every greater one.
 pub fn capped(n: u32) -> u16
     ensures { λ r. ⌜ r ≡ cappedOf n ⌝ }
@@ -42,6 +31,13 @@ pub fn capped(n: u32) -> u16
         return n as u16;
     }
     65535
+}
+
+// The sum, as far as 16 bits hold it.
+pub fn plus(a: u16, b: u16) -> u16
+    ensures { λ r. ⌜ r ≡ plusOf a b ⌝ }
+{
+    capped(a as u32 + b as u32)
 }
 
 // A number below 256; 0 for any other.

@@ -1,4 +1,4 @@
-// The bench file (document 01): `read` takes a file apart, `write` puts it together again.
+// The bench file (document 01; document 02, #101): `read` takes a file apart, `write` puts it together again.
 mod events;
 mod heading;
 mod writing;

@@ -1,5 +1,5 @@
 -- Each place of a line has its own limit: a number above it is 4. Assumes nothing.
-use mathlib.Core.Path.{_≡_, refl, sym, ap, subst, _∙_}
+use mathlib.Core.Path.{_≡_, sym, ap, subst, _∙_}
 use mathlib.Core.Logic.{⊎-elim, by-cases}
 use mathlib.Core.Bool.{true, false, true≢false, or-true}
 use mathlib.Core.List.{List, [], _∷_, cons≢nil}

@@ -1,6 +1,6 @@
--- Rules of the lines of a bench file (document 01, "The bench file" and "Turned away", 3 to 9). A line is a text without its LF.
--- Definitions only. Of each kind of line: the lowest number of all its faults, 0 for none; what a good line says; and the line that says
--- it.
+-- Rules of the lines of a bench file (document 01, "The bench file" and "Turned away", 3 to 9; document 02, #101). A line is a text without
+-- its LF. Definitions only. Of each kind of line: the lowest number of all its faults, 0 for none; what a good line says; and the line that
+-- says it.
 use Prim.Native.Nat.{ℕ, zero, suc}
 use mathlib.Core.Bool.{Bool, true, false, not, _||_, cond}
 use mathlib.Core.List.{List, [], _∷_, _++_, map, foldl}

@@ -1,4 +1,5 @@
-// The lines of a bench file (document 01): the line readers, each handed the rest of a file. Every function is total.
+// The lines of a bench file (document 01; document 02, #101): the line readers, each handed the rest of a file. Every public function is
+// total.
 mod entries;
 mod events;
 mod fields;

@@ -4,7 +4,7 @@ use mathlib.Core.Path.{_≡_, refl, sym, ap, subst, _∙_}
 use mathlib.Core.Bool.{true, not}
 use mathlib.Core.List.{List, [], _∷_, _++_, append-nil, map}
 use Prim.Native.Nat.{ℕ, suc, _+_, _*_, _-_, _≤_, _<_, suc-le-suc}
-use native.Mathlib.Nat.{add-zero, suc-ne-zero, zero-lt-suc, le-of-suc-le-suc, min-eq-left}
+use native.Mathlib.Nat.{add-zero, suc-ne-zero, zero-lt-suc}
 use native.Mathlib.Numerals.{add-one}
 use native.Mathlib.Omega.{arith}
 use borrow.Author.Tests.{lt-ltb, ltb-true, ne-eqb}
@@ -33,7 +33,7 @@ use Rattle.bench_promises.specs.Replies.{sendAnswer, arriveAnswer}
 use Rattle.bench_promises.specs.State.{Bench}
 use Rattle.bench_promises.specs.Promises.{SendPromise, ArrivePromise}
 use Rattle.bench_promises.specs.Chains.{Loan, behind, lent, Called, sends, arrives}
-use Rattle.bench_promises.proofs.Padding.{plus-small}
+use Rattle.bench_promises.proofs.Padding.{capped-small, plus-small}
 use Rattle.bench_promises.proofs.Reached.{hops-whole, book-whole, called-reached, reached-send, reached-arrive}
 use Rattle.bench_engine.specs.declared.Sent.{Sent}
 use Rattle.bench_engine.specs.declared.Arrived.{Arrived}
@@ -60,10 +60,6 @@ record EventThere (list : List ℕ) (n : ℕ) (e : Event) (rest : List ℕ) : Ty
       (record { first = capped (getD list n 0); second = capped (getD list (n + 1) 0); third = getD list (n + 2) 0 }) e
   behind : drop (n + 3) list ≡ rest
   inside : n < length list
-
-capped-small : (n : ℕ) → n < 65536 → capped n ≡ n
-unfolding capped
-capped-small n h = min-eq-left (le-of-suc-le-suc h)
 
 three-there : (list : List ℕ) (n a b c : ℕ) (rest : List ℕ) → a < 65536 → b < 65536 → drop n list ≡ a ∷ b ∷ c ∷ rest
     → EventThere list n (record { first = a; second = b; third = c }) rest

@@ -29,7 +29,7 @@ pub struct Progress {
 }
 
 // An event as it stands in the list (document 01): of a send source+1, group and word, of an arrival 0, hop and 0. Only a word may need
-// more than 16 bits.
+// more than 16 bits (document 02, #101).
 pub struct Event {
     pub first: u16,
     pub second: u16,

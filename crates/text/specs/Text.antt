@@ -1,5 +1,5 @@
--- Rules of text (document 01, its first paragraph and "The bench file"): decimal numbers, and lists with a separator. A text is a list of
--- bytes. Definitions only.
+-- Rules of text (document 01, its first paragraph and "The bench file"; document 02, #101): decimal numbers, and lists with a separator. A
+-- text is a list of bytes. Definitions only.
 use Prim.Native.Nat.{ℕ, zero, suc, _+_, _-_, _*_, _/_, _%_}
 use mathlib.Core.Bool.{Bool, true, false, _&&_, cond}
 use mathlib.Core.List.{List, [], _∷_, _++_, foldl}

@@ -232,11 +232,12 @@ pub fn check(
     same_forest("check", answer, &parents, &before, expected)
 }
 
-/// A call with a greater number in each place that has 65,535, the word's aside: it must make no difference.
+/// A call with a greater number, of which the low half is small, in each place that has 65,535, the word's aside: it must make no
+/// difference.
 fn with_greater(numbers: [u32; 6], at: usize) -> [u32; 6] {
     const WORD: usize = 3;
     std::array::from_fn(|place| match numbers[place] {
-        65_535 if place != WORD => u32::MAX - at as u32,
+        65_535 if place != WORD => 65_536 * (1 + at as u32 % 3) + at as u32 % 4,
         number => number,
     })
 }

@@ -1,5 +1,5 @@
-//! A plain model of document 01, and of the change requests of document 02 that are done, written from their text: each function says in its
-//! comment which rule it follows. Speed does not matter.
+//! A plain model of document 01, and of the change requests of document 02 that are done, written from their text: each function says in
+//! its comment which rule it follows. Speed does not matter.
 
 pub mod bench;
 pub mod file;

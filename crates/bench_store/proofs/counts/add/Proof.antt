@@ -4,13 +4,13 @@ use borrow.Author.Tests.{le-ltb, lt-ltb}
 use mathlib.Core.Path.{_≡_, refl}
 use Prim.Native.Nat.{ℕ, _+_, _<_, _^_}
 use native.Mathlib.Omega.{arith}
-use Rattle.bench_store.specs.Values.{plus, countIn, addedIn, added, isPair}
+use Rattle.bench_store.specs.Values.{plus, capped, countIn, addedIn, added, isPair}
 use Rattle.bench_store.proofs.counts.add.Statement.{statement}
 use Rattle.bench_store.proofs.counts.add.Tie as tie
 
 none-more : (n : ℕ) → n < 2 ^ 16 → n ≡ plus 0 n
-unfolding plus
-none-more n h = simp (lt-ltb (0 + n) 65536 (omega (arith, h))) (omega arith)
+unfolding plus capped
+none-more n h = omega (arith, h)
 
 returns : tie.Need-returns
 unfolding countIn addedIn isPair

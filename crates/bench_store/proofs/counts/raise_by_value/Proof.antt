@@ -7,20 +7,20 @@ use native.Mathlib.Omega.{arith}
 use lib.ListN.{length, getD, length-set}
 use lib.Seq.{getD-set-same}
 use borrow.Author.Tests.{le-ltb, lt-ltb}
-use Rattle.bench_store.specs.Values.{plus, countIn, addedIn, raisedRow, added, isPair}
+use Rattle.bench_store.specs.Values.{plus, capped, countIn, addedIn, raisedRow, added, isPair}
 use Rattle.bench_store.proofs.counts.raise_by_value.Statement.{statement}
 use Rattle.bench_store.proofs.counts.raise_by_value.Tie as tie
 
 returns : tie.Need-returns
-unfolding countIn addedIn isPair plus
+unfolding countIn addedIn isPair plus capped
 returns c = simp (le-ltb _ _ (c .if1 .taken)) (refl, refl)
 
 returns-2 : tie.Need-returns-2
-unfolding countIn addedIn isPair plus
+unfolding countIn addedIn isPair plus capped
 returns-2 c = simp (lt-ltb _ _ (c .before .if1 .left), le-ltb _ _ (c .if2 .taken)) (refl, refl)
 
 returns-3 : tie.Need-returns-3
-unfolding countIn addedIn isPair plus
+unfolding countIn addedIn isPair plus capped
 returns-3 c = simp (lt-ltb _ _ (c .before .before .if1 .left), lt-ltb _ _ (c .before .if2 .left), le-ltb _ _ (c .if3 .taken)) (refl, refl)
 
 mul-raised : tie.Need-mul-raised

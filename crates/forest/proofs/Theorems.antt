@@ -15,7 +15,8 @@ use Rattle.sets.proofs.Bools.{either, clash, and-both, or-none, not-of-false}
 use Rattle.sets.proofs.Laws.{member-difference, below-in, lowest-of-some, not-empty, below-below, difference-none}
 use Rattle.sets.proofs.Laws.{collect-none, none-collect}
 use Rattle.forest.specs.Forest.{parent, hasPrimary, cyclicUnits, withoutPrimary}
-use Rattle.layout.specs.Build.{built}
+use Rattle.layout.specs.Build.{built, Laid}
+use Rattle.layout.specs.Inside.{ExactlyInside}
 use Rattle.forest.specs.Calls.{countedAt, counted, drawn, badCounts, emptyAt, emptyGroups, outsideAt}
 use Rattle.forest.specs.Calls.{outsideGroups, outsideParent, outsideParents, refuse, groupsRefusal, drawingRefusal, orRoots}
 use Rattle.forest.specs.Calls.{buildRefusal, buildParents, checkRefusal, checkParents}
@@ -27,6 +28,7 @@ use Rattle.forest.proofs.Primaries.{primary-is, primary-unique, on-rout
 use Rattle.forest.proofs.Primaries.{without-primary-none, none-without-primary}
 use Rattle.layout.proofs.Laid.{Bench, in-rest, root-small, bench-part, bench-component, rest-part, rest-component}
 use Rattle.layout.proofs.Laid.{laid-facts, laid-once, lonely-root}
+use Rattle.layout.proofs.GroupsInside.{groups-inside as laid-groups-inside}
 use Rattle.forest.proofs.Accepted.{past-drawn, built-cut, built-parent, rule-parent, lonely-childless}
 use Rattle.forest.proofs.Accepted.{built-acyclic, built-within, built-primary}
 
@@ -163,6 +165,12 @@ components-are-parts n c gs e =
       smaller-only = λ {s} {live} {top} {r} l q p. rest-component n (counted c gs) bench s live r (laid-facts n (counted c gs) bench l)
           (q .inside) p;
     }
+
+-- of every part that is laid out for a table: the groups not set aside that meet it are those inside it
+pub groups-inside : (n c : ℕ) (gs : List ℕ) → buildRefusal n c gs ≡ [] → {s live top : ℕ} → Laid n (counted c gs) s live top
+    → ExactlyInside (counted c gs) live s
+unfolding buildRefusal
+groups-inside n c gs e = laid-groups-inside n (counted c gs) (groups-good n c gs [] e .0 .bench)
 
 -- ---- what `build` answers is accepted
 

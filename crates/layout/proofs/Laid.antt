@@ -121,7 +121,7 @@ module _ (n : ℕ) (gs : List ℕ) (bench : Bench n gs) where
     rest-units u m = unit-small (f .units u (in-rest s r u root-small m .0))
 
     -- a smaller part lies in the rest
-    pub component-in-rest : (u : ℕ) → member s u ≡ true → (u ≡ r → ⊥)
+    component-in-rest : (u : ℕ) → member s u ≡ true → (u ≡ r → ⊥)
         → Subset (component gs (setAside gs live r) u) (excluding s r)
     unfolding Subset
     component-in-rest u m k v a = joined-among
@@ -182,6 +182,11 @@ module _ (n : ℕ) (gs : List ℕ) (bench : Bench n gs) where
       (p : IsPart gs (setAside gs live r) (excluding s r) t)
       → (u : ℕ) → member t u ≡ true → (member s u ≡ true) × (u ≡ r → ⊥)
   laid-inside {s} {live} r l q p u m = in-rest s r u (root-small s live r (laid-facts l) (q .inside)) (joined-among (p .every u .0 m))
+
+  -- a laid part has a unit
+  pub laid-some : {s live top : ℕ} → Laid n gs s live top → (u : ℕ) × (member s u ≡ true)
+  laid-some (whole p) = (p .unit, part-inside p)
+  laid-some (smaller r l q p) = (p .unit, part-inside p)
 
   laid-size : {s live top : ℕ} (l : Laid n gs s live top) → depth l + size s ≤ 32
   unfolding depth

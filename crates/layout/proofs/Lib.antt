@@ -3,4 +3,5 @@ pub mod Loops
 pub mod Parts
 pub mod Roots
 pub mod Laid
+pub mod GroupsInside
 pub mod Laying

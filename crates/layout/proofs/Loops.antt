@@ -104,10 +104,6 @@ module _ (s : ℕ) (new old : ℕ → ℕ) where
       (λ (e : u ≡ k). let m : member s u ≡ false = ap (member s) e ∙ h in simp (m, and-false))
       (updated-other k u))
 
-  pub updated-at : (k : ℕ) → k < 32 → getD (updated s new old k) k 0 ≡ old k
-  unfolding updated
-  updated-at k b = getD-tabulate 32 _ k 0 b ∙ simp (le-ltb k k (le-refl k))
-
   pub updated-turn : (k : ℕ) → k < 32 → member s k ≡ true → set (updated s new old k) k (new k) ≡ updated s new old (suc k)
   unfolding updated
   updated-turn k b m = tabulated 32 _ _ 0 (length-set l k (new k) ∙ long) (λ u h. by-cases (ℕ-discrete u k)

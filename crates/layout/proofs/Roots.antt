@@ -8,10 +8,11 @@ use native.Mathlib.Nat.{le-refl, le-trans, not-suc-le-zero, le-suc, lt-irrefl, l
 use native.Mathlib.Decide.{ℕ-discrete}
 use native.Mathlib.Omega.{arith}
 use lib.Dec.{ltb, eqb}
-use borrow.Author.Tests.{eq-eqb, ne-eqb, ltb-true, ltb-false}
-use Rattle.sets.specs.Sets.{member}
+use borrow.Author.Tests.{eq-eqb, ne-eqb, lt-ltb, le-ltb, ltb-true, ltb-false}
+use Rattle.sets.specs.Sets.{member, excluding, lowest}
 use Rattle.sets.proofs.Bools.{either, clash, cond-true, cond-false}
 use Rattle.sets.proofs.Laws.{member-below}
+use Rattle.sets.proofs.Members.{Left, left-all, next-member, left-turn, visits-start, visits-turn, visits-end}
 use Rattle.layout.specs.Build.{degree, betterOf, largestWithin, root, IsRoot}
 
 -- u does not come before r: it has a smaller degree, or the same and no lower number
@@ -28,9 +29,55 @@ abbrev Search : (ℕ → ℕ) → ℕ → ℕ → ℕ → Type 0
 Search deg s k r = ((r ≡ 32) × ((u : ℕ) → u < k → member s u ≡ true → ⊥)) ⊎ Found deg s k r
 
 -- the search does not change at a number that is no member
-pub largest-still : (deg : ℕ → ℕ) (s k : ℕ) → member s k ≡ false → largestWithin (suc k) deg s ≡ largestWithin k deg s
+largest-still : (deg : ℕ → ℕ) (s k : ℕ) → member s k ≡ false → largestWithin (suc k) deg s ≡ largestWithin k deg s
 unfolding largestWithin betterOf
 largest-still deg s k h = simp h
+
+-- a search over the members: r is the best of those that are passed, and `left` has the others
+pub record Best (deg : ℕ → ℕ) (s left r : ℕ) : Type 0 where
+  pub others : Left s left
+  pub best : r ≡ largestWithin (lowest left) deg s
+  pub small : r < 32
+
+module _ (deg : ℕ → ℕ) {s : ℕ} (bounded : s < 2 ^ 32) where
+  -- it starts with the lowest
+  pub best-first : {left r : ℕ} → 0 < s → r ≡ lowest s → left ≡ excluding s r → Best deg s left r
+  unfolding largestWithin betterOf
+  best-first some e x =
+      let all = left-all s bounded in
+      let n : s ≡ 0 → ⊥ = λ z. lt-irrefl 0 (omega arith) in record {
+        others = left-turn all n e x;
+        best = visits-turn s (λ k. largestWithin k deg s) (largest-still deg s) all n e x
+            (visits-start s (λ k. largestWithin k deg s) (largest-still deg s) refl) (λ b m w. rw (← w) (simp m));
+        small = next-member all n e .0;
+      }
+
+  -- k, the next one, takes its place just where it has a larger degree
+  module _ {left r k next : ℕ} (h : Best deg s left r) (n : left ≡ 0 → ⊥) (e : k ≡ lowest left)
+      (x : next ≡ excluding left k) where
+    turn : {v : ℕ} → (member s k ≡ true → r ≡ largestWithin k deg s → v ≡ largestWithin (suc k) deg s)
+        → v ≡ largestWithin (lowest next) deg s
+    turn step = visits-turn s (λ i. largestWithin i deg s) (largest-still deg s) (h .others) n e x (h .best) (λ b. step)
+
+    pub best-next : deg r < deg k → Best deg s next k
+    unfolding largestWithin betterOf
+    best-next l = record {
+      others = left-turn (h .others) n e x;
+      best = turn (λ m w. rw (← w) (simp (m, lt-ltb (deg r) (deg k) l, or-true)));
+      small = next-member (h .others) n e .0;
+    }
+
+    pub best-still : deg k ≤ deg r → Best deg s next r
+    unfolding largestWithin betterOf
+    best-still l =
+        let unit = ne-eqb r 32 (λ z. let b = h .small in lt-irrefl 32 (omega arith)) in record {
+          others = left-turn (h .others) n e x;
+          best = turn (λ m w. rw (← w) (simp (m, le-ltb (deg r) (deg k) l, unit)));
+          small = h .small;
+        }
+
+  pub best-end : {left r : ℕ} → Best deg s left r → left ≡ 0 → r ≡ largestWithin 32 deg s
+  best-end h = visits-end s (λ k. largestWithin k deg s) (largest-still deg s) 32 bounded (le-refl 32) (h .best)
 
 module _ (deg : ℕ → ℕ) (s : ℕ) where
   -- what holds below k and at k holds below k + 1

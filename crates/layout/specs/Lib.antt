@@ -1,3 +1,4 @@
 pub mod Tables
 pub mod Build
+pub mod Inside
 pub mod Layout

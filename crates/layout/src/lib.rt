@@ -1,36 +1,83 @@
-// The layout of a forest from a table of groups: the rule by which `build` sets parents.
+// The layout of a forest from a table of groups: the rule by which `build` sets parents. The groups are read in the table, which stays.
 ghost use mathlib.Core.Path.{_≡_};
 ghost use mathlib.Core.Bool.{true};
 ghost use lib.ListN.{length};
+ghost use Prim.Native.Nat.{_<_};
 ghost use Rattle.layout.specs.Tables.{tabulate};
 ghost use Rattle.layout.specs.Build.{groupsOf, absorbed as absorbedOf, spread as spreadOf, component as componentOf};
-ghost use Rattle.layout.specs.Build.{betterOf, largestWithin, builtParent};
-ghost use Rattle.layout.specs.Layout.{withGroup, degreeIn, Layable, LaidOut};
+ghost use Rattle.layout.specs.Build.{degree as degreeOf, largestWithin, builtParent};
+ghost use Rattle.layout.specs.Layout.{groupedWithin, degreesOf, degreeIn, liesIn, insideOf, Layable, LaidOut};
 
-// Adds the group at place i to the groups of each of its members.
-fn add_group(table: &mut [u32; 32], group: u32, i: usize)
-    requires { ⌜ length (now table) ≡ 32 ⌝ }
-    ensures { λ _. ⌜ now (table .exit) ≡ withGroup i group (now (table .entry)) ⌝ }
+// The groups that hold u.
+fn groups_of(groups: &[u32; 24], u: usize) -> u32
+    requires { ⌜ length (now groups) ≡ 24 ⌝ }
+    ensures { λ r. ⌜ r ≡ groupsOf (now (groups .entry)) u ⌝ }
 {
-    let mut left = group;
-    while left != 0 {
-        let u = sets::lowest(left);
-        table[u] = sets::including(table[u], i);
-        left = sets::excluding(left, u);
-    }
-}
-
-// For each unit the groups that hold it.
-fn memberships(groups: &[u32; 24]) -> [u32; 32]
-    ensures { λ r. ⌜ r ≡ tabulate 32 (groupsOf (now (groups .entry))) ⌝ }
-{
-    let mut table = [0u32; 32];
+    let mut set: u32 = 0;
     let mut i = 0;
     while i < 24 {
-        add_group(&mut table, groups[i], i);
+        set = sets::including_if(set, i, sets::member(groups[i], u));
         i += 1;
     }
+    set
+}
+
+// How many groups hold u: the count of ones of their set.
+fn degree(groups: &[u32; 24], u: usize) -> u8
+    requires { ⌜ length (now groups) ≡ 24 ⌝ }
+    ensures { λ r. ⌜ r ≡ degreeOf (now (groups .entry)) u ⌝ }
+{
+    sets::size(groups_of(groups, u)) as u8
+}
+
+// The units that some group holds.
+fn grouped(groups: &[u32; 24]) -> u32
+    requires { ⌜ length (now groups) ≡ 24 ⌝ }
+    ensures { λ r. ⌜ r ≡ groupedWithin 24 (now (groups .entry)) ⌝ }
+{
+    let mut set: u32 = 0;
+    let mut i = 0;
+    while i < 24 {
+        set = sets::union(set, groups[i]);
+        i += 1;
+    }
+    set
+}
+
+// For each of the units how many groups hold it; 0 for every other.
+fn degrees(groups: &[u32; 24], units: u32) -> [u8; 32]
+    requires { ⌜ length (now groups) ≡ 24 ⌝ }
+    ensures { λ r. ⌜ r ≡ degreesOf (now (groups .entry)) units ⌝ }
+{
+    let mut table = [0u8; 32];
+    let mut left = units;
+    while left != 0 {
+        let u = sets::lowest(left);
+        table[u] = degree(groups, u);
+        left = sets::excluding(left, u);
+    }
     table
+}
+
+// Whether the group g has all its units in s.
+fn lies(g: u32, s: u32) -> bool
+    ensures { λ r. ⌜ r ≡ liesIn g s ⌝ }
+{
+    sets::intersection(g, s) == g
+}
+
+// The groups that have all their units in s; an empty place of the table is among them, and joins nobody.
+fn inside(groups: &[u32; 24], s: u32) -> u32
+    requires { ⌜ length (now groups) ≡ 24 ⌝ }
+    ensures { λ r. ⌜ r ≡ insideOf (now (groups .entry)) s ⌝ }
+{
+    let mut set: u32 = 0;
+    let mut i = 0;
+    while i < 24 {
+        set = sets::including_if(set, i, lies(groups[i], s));
+        i += 1;
+    }
+    set
 }
 
 // s with the group g where it shares a unit with s.
@@ -76,75 +123,54 @@ fn component(groups: &[u32; 24], live: u32, u: usize) -> u32
     set
 }
 
-// How many groups u is in: its count of ones.
-fn degree(of: &[u32; 32], u: usize) -> u32
-    requires { ⌜ length (now of) ≡ 32 ⌝ }
-    ensures { λ r. ⌜ r ≡ degreeIn (now (of .entry)) u ⌝ }
-{
-    if 32 <= u {
-        return 0;
-    }
-    sets::size(of[u])
-}
-
-// The better root of r and k: k where it is in the part and r is none or is in fewer groups.
-fn better(of: &[u32; 32], part: u32, r: usize, k: usize) -> usize
-    requires { ⌜ length (now of) ≡ 32 ⌝ }
-    ensures { λ b. ⌜ b ≡ betterOf (degreeIn (now (of .entry))) part r k ⌝ }
-{
-    if sets::member(part, k) {
-        if r == 32 {
-            return k;
-        }
-        if degree(of, r) < degree(of, k) {
-            return k;
-        }
-    }
-    r
-}
-
 // The root of the part: its unit in most groups, among equals the lowest.
-fn root(of: &[u32; 32], part: u32) -> usize
-    requires { ⌜ length (now of) ≡ 32 ⌝ }
-    ensures { λ r. ⌜ r ≡ largestWithin 32 (degreeIn (now (of .entry))) part ⌝ }
+fn root(degrees: &[u8; 32], part: u32) -> usize
+    requires { ⌜ (length (now degrees) ≡ 32) × (0 < part) ⌝ }
+    ensures { λ r. ⌜ r ≡ largestWithin 32 (degreeIn (now (degrees .entry))) part ⌝ }
 {
-    let mut r: usize = 32;
-    let mut left = part;
+    let mut r = sets::lowest(part);
+    let mut left = sets::excluding(part, r);
     while left != 0 {
         let k = sets::lowest(left);
-        r = better(of, part, r, k);
+        if degrees[r] < degrees[k] {
+            r = k;
+        }
         left = sets::excluding(left, k);
     }
     r
 }
 
-// Lays out one part below `top`, and below its root each smaller part that is left when the root is taken out.
-fn lay(groups: &[u32; 24], of: &[u32; 32], part: u32, live: u32, top: u8, parents: &mut [u8; 32])
-    requires { ⌜ Layable (now groups) (now of) part live (now parents) ⌝ }
-    ensures { λ _. ⌜ LaidOut (now (groups .entry)) part live top (now (parents .entry)) (now (parents .exit)) ⌝ }
+// Lays out one part below `top`, and below its root each smaller part that is left when the root is taken out. What is left is joined by
+// the groups inside it: they are those that have a unit of it and are not set aside.
+fn lay(groups: &[u32; 24], degrees: &[u8; 32], part: u32, top: u8, parents: &mut [u8; 32])
+    requires { ⌜ Layable (now groups) (now degrees) part top (now parents) ⌝ }
+    ensures { λ _. ⌜ LaidOut (now (groups .entry)) part (now (parents .entry)) (now (parents .exit)) ⌝ }
 {
-    let r = root(of, part);
+    let r = root(degrees, part);
     parents[r] = top;
-    let fewer = sets::difference(live, of[r]);
     let mut rest = sets::excluding(part, r);
+    if rest == 0 {
+        return;
+    }
+    let joining = inside(groups, rest);
     while rest != 0 {
-        let smaller = component(groups, fewer, sets::lowest(rest));
-        lay(groups, of, smaller, fewer, r as u8, parents);
+        let smaller = component(groups, joining, sets::lowest(rest));
+        lay(groups, degrees, smaller, r as u8, parents);
         rest = sets::difference(rest, smaller);
     }
 }
 
-// The parent of every unit, part by part.
+// The parent of every unit, part by part; a unit in no group is a root.
 pub fn lay_out(groups: [u32; 24]) -> [u8; 32]
     ensures { λ r. ⌜ r ≡ tabulate 32 (builtParent groups) ⌝ }
 {
-    let of = memberships(&groups);
     let all = sets::below(24);
     let mut table = [255u8; 32];
-    let mut rest = sets::below(32);
+    let mut rest = grouped(&groups);
+    let counts = degrees(&groups, rest);
     while rest != 0 {
         let part = component(&groups, all, sets::lowest(rest));
-        lay(&groups, &of, part, all, 255, &mut table);
+        lay(&groups, &counts, part, 255, &mut table);
         rest = sets::difference(rest, part);
     }
     table

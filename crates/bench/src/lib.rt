@@ -1,5 +1,7 @@
 // The bench by value. Its calls take it apart, lend its arrays to the calls of `bench_engine`, and put it together again: no call has a
 // code of its own. Only a fresh bench is made here.
+#![tactic(auto)]
+
 ghost use Rattle.std.specs.Prelude.{◌≡◌, cond};
 ghost use Rattle.bench_promises.specs.Machine.{is_short};
 ghost use Rattle.bench_promises.specs.Promises.{FreshPromise, SendPromise, ArrivePromise, RestPromise, LogPromise, LogPlace};
@@ -12,7 +14,7 @@ use bench_store::counts::PairCounts;
 use bench_store::{Limits, counts};
 use forest_tables::Tables;
 
-#[derive(Drop)]
+#[derive(Clone, Copy)]
 pub struct Bench {
     pub totals: Totals,
     // what is computed of the forest
@@ -26,21 +28,21 @@ pub struct Bench {
 }
 
 // What `fresh` answers.
-#[derive(Drop)]
+#[derive(Clone, Copy)]
 pub struct Fresh {
     pub bench: Bench,
     pub reply: FreshReply,
 }
 
 // What `send` answers.
-#[derive(Drop)]
+#[derive(Clone, Copy)]
 pub struct Sent {
     pub bench: Bench,
     pub reply: SendReply,
 }
 
 // What `arrive` answers.
-#[derive(Drop)]
+#[derive(Clone, Copy)]
 pub struct Arrived {
     pub bench: Bench,
     pub reply: ArriveReply,

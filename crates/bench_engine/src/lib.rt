@@ -5,6 +5,8 @@
 //     messages   columns of the messages: their sources, groups and words (`Messages` of `bench_store`)
 //     pairs      two arrays of counts by sender and receiver: hops made, hops taken (`PairCounts` of `bench_store`)
 //     gauges     columns of the small numbers of each unit: the lengths of the logs (`Gauges` of `bench_store`)
+#![tactic(auto)]
+
 pub mod arriving;
 pub mod looking;
 pub mod sending;
@@ -15,14 +17,14 @@ pub use looking::{log, log_length, log_part, rest};
 pub use sending::send;
 
 // What `send` answers.
-#[derive(Drop)]
+#[derive(Clone, Copy)]
 pub struct Sent {
     pub totals: Totals,
     pub reply: SendReply,
 }
 
 // What `arrive` answers.
-#[derive(Drop)]
+#[derive(Clone, Copy)]
 pub struct Arrived {
     pub totals: Totals,
     pub reply: ArriveReply,
@@ -30,7 +32,7 @@ pub struct Arrived {
 
 // Where the part of the book starts that `log` hands back, and how many numbers it has.
 #[repr(C)]
-#[derive(Drop)]
+#[derive(Clone, Copy)]
 pub struct Part {
     pub start: usize,
     pub length: usize,

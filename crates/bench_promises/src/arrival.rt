@@ -1,5 +1,5 @@
 // An arrival under way. All its copies go from one sender to one receiver.
-#[derive(Drop)]
+#[derive(Clone, Copy)]
 pub struct Arrival {
     pub sender: u8,
     pub receiver: u8,
@@ -18,7 +18,7 @@ pub struct Arrival {
 }
 
 // What a message means to a receiver: whether it is logged, and to which children it goes on.
-#[derive(Drop)]
+#[derive(Clone, Copy)]
 pub struct Delivery {
     pub message: u16,
     pub member: bool,

@@ -1,5 +1,7 @@
 // The bench as data, and what its calls promise: its totals, its answers, and an arrival under way. There is no function here; the
 // definitions are in specs/, the theorems (demand 3 over lists of calls) in proofs/.
+#![tactic(auto)]
+
 mod arrival;
 mod replies;
 
@@ -8,7 +10,7 @@ pub use replies::{ArriveReply, FreshReply, LogReply, RestReply, SendReply};
 
 // Hops made and taken, messages sent, and the sum of their route sizes (document 01: way sizes).
 #[repr(C)]
-#[derive(Drop)]
+#[derive(Clone, Copy)]
 pub struct Totals {
     pub made: u16,
     pub taken: u16,

@@ -1,12 +1,12 @@
 // The answers of the calls; specs/Replies.antt gives document 01's number and the values of each case.
 
-#[derive(Drop)]
+#[derive(Clone, Copy)]
 pub enum FreshReply {
     Made,
     ListTooShort,
 }
 
-#[derive(Drop)]
+#[derive(Clone, Copy)]
 pub enum SendReply {
     Sent(u16),
     ListTooShort,
@@ -16,7 +16,7 @@ pub enum SendReply {
     RoutesTooLong,
 }
 
-#[derive(Drop)]
+#[derive(Clone, Copy)]
 pub enum ArriveReply {
     Taken(u16),
     Held,
@@ -25,14 +25,14 @@ pub enum ArriveReply {
     NotMade,
 }
 
-#[derive(Drop)]
+#[derive(Clone, Copy)]
 pub enum LogReply {
     Length(u16),
     ListTooShort,
     NoSuchUnit,
 }
 
-#[derive(Drop)]
+#[derive(Clone, Copy)]
 pub enum RestReply {
     Rest(bool),
     ListTooShort,

@@ -5,7 +5,7 @@ ghost use Rattle.bench_store.specs.Values.{column_at, with_column};
 use crate::Limits;
 
 // The list of the messages sent: columns of their sources, groups and words, the first message at place 0.
-#[derive(Drop)]
+#[derive(Clone, Copy)]
 pub struct Messages {}
 
 impl Messages {
@@ -19,7 +19,7 @@ impl Messages {
 }
 
 // The list of the small numbers of each unit: a column of the lengths of the logs.
-#[derive(Drop)]
+#[derive(Clone, Copy)]
 pub struct Gauges {}
 
 impl Gauges {

@@ -5,7 +5,7 @@ ghost use Rattle.bench_store.specs.Values.{plus as plusOf, raised_row, count_in,
 
 use crate::{Limits, plus};
 
-#[derive(Drop)]
+#[derive(Clone, Copy)]
 pub struct PairCounts {
     pub grids: [[[u16; Limits::UNITS]; Limits::UNITS]; 2],
 }

@@ -1,5 +1,7 @@
 // What a bench is kept in: the limits, numbers and sums that stop at 16 bits, lists made of columns, pair counts, and the log book
 // lent by the caller. Every function is total: a place past a list reads as zeros, and nothing is stored there.
+#![tactic(auto)]
+
 pub mod book;
 pub mod columns;
 pub mod counts;
@@ -8,7 +10,7 @@ ghost use Rattle.std.specs.Prelude.{◌≡◌};
 ghost use Rattle.bench_store.specs.Values.{plus as plusOf, byte as byte_of, capped as cappedOf};
 
 // Document 01's limits. This is their one home: all code of the bench reads them here.
-#[derive(Drop)]
+#[derive(Clone, Copy)]
 pub struct Limits {}
 
 impl Limits {

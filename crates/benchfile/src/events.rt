@@ -6,7 +6,7 @@ ghost use Rattle.benchfile.specs.Steps.{EventsRead, NumbersPut, EventsStored};
 use lines::event;
 
 // A fault with how many good events stand before it, or how many there are.
-#[derive(Drop)]
+#[derive(Clone, Copy)]
 pub struct Tally {
     pub fault: u8,
     pub count: u16,

@@ -7,7 +7,7 @@ use crate::Content;
 use lines::{group, groups, parents, units};
 
 // `units=` and `groups=`: a fault with its line, or both numbers and the place after them.
-#[derive(Drop)]
+#[derive(Clone, Copy)]
 pub struct Counts {
     pub fault: u8,
     pub line: usize,
@@ -17,7 +17,7 @@ pub struct Counts {
 }
 
 // The lines `group=`: a fault with how many were read before it, or the groups and the place after them.
-#[derive(Drop)]
+#[derive(Clone, Copy)]
 pub struct Groups {
     pub fault: u8,
     pub read: usize,
@@ -26,7 +26,7 @@ pub struct Groups {
 }
 
 // All of them: a fault with its line, or the content so far, the place after them and the next line.
-#[derive(Drop)]
+#[derive(Clone, Copy)]
 pub struct Heading {
     pub fault: u8,
     pub line: usize,

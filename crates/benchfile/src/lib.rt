@@ -1,4 +1,6 @@
 // The bench file (document 01; document 02, #101): `read` takes a file apart, `write` puts it together again.
+#![tactic(auto)]
+
 mod events;
 mod heading;
 mod writing;
@@ -7,7 +9,7 @@ ghost use Rattle.std.specs.Prelude.{◌≡◌, [], ◌∷◌, ◌≤◌};
 ghost use Rattle.benchfile.specs.Calls.{read_answer, TurnedAway, no_content, ReadPromise, WritePromise};
 
 // What a file says beside its events: units; groups, of whose places the first `count` count; `build`, or the 32 parents; how many events.
-#[derive(Drop)]
+#[derive(Clone, Copy)]
 pub struct Content {
     pub units: u8,
     pub count: u8,
@@ -19,7 +21,7 @@ pub struct Content {
 
 // What `read` says of a file; `read_answer` of specs/Calls.antt gives document 01's number and the values of each case. A file that was
 // read: how many numbers were written, and the line of `parents=`. Else the line of the fault.
-#[derive(Drop)]
+#[derive(Clone, Copy)]
 pub enum ReadReply {
     Read(usize, usize),
     ListTooShort,
@@ -34,14 +36,14 @@ pub enum ReadReply {
 }
 
 // The reply and, where the file was read, its content.
-#[derive(Drop)]
+#[derive(Clone, Copy)]
 pub struct ReadAnswer {
     pub reply: ReadReply,
     pub content: Content,
 }
 
 // What `write` says: how many bytes were written.
-#[derive(Drop)]
+#[derive(Clone, Copy)]
 pub enum WriteReply {
     Wrote(usize),
     ListTooShort,

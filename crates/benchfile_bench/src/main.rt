@@ -1,6 +1,8 @@
 // Takes a bench file on standard input, reads and writes it 1,000 times each, and prints how many numbers and bytes that made. The file
 // that stands beside the program has 32 units, 24 groups, 2,564 events and 32,768 bytes.
 // The first argument names one of the two; with none, or another word, both are run.
+#![tactic(auto)]
+
 use benchfile::{ReadReply, WriteReply};
 use libc::{STDIN_FILENO, STDOUT_FILENO};
 

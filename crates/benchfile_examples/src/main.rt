@@ -1,5 +1,7 @@
 // Bench files, good and bad, as document 01 tells: a line for each, with what `read` answers, and for a good file whether `write` gives it
 // back.
+#![tactic(auto)]
+
 use benchfile::{Content, ReadAnswer, ReadReply, WriteReply};
 use libc::STDOUT_FILENO;
 use text::writing::put_text;

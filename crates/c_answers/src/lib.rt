@@ -1,4 +1,6 @@
 // The answers of the calls for C: three numbers, of 64 bits, or of 16 for a call on a bench (`replies`).
+#![tactic(auto)]
+
 pub mod replies;
 
 ghost use Rattle.forest.specs.Calls.{refusal as refusal_of};
@@ -8,7 +10,7 @@ ghost use Rattle.c_answers.specs.Answers.{numbers_of, refused_for};
 use forest::Verdict;
 
 // 0 or the number of a refusal, and two numbers more.
-#[derive(Drop)]
+#[derive(Clone, Copy)]
 pub struct Answer {
     pub refusal: u64,
     pub first: u64,

@@ -10,7 +10,7 @@ use forest::Verdict;
 
 // The number of a refusal, or 0; the kind of the reply; its value.
 #[repr(C)]
-#[derive(Drop)]
+#[derive(Clone, Copy)]
 pub struct Reply {
     pub refusal: u16,
     pub kind: u16,

@@ -11,7 +11,7 @@ use bench::{Bench, Fresh};
 use bench_store::Limits;
 
 // The bench that a list of calls leaves, and how many numbers their replies have.
-#[derive(Drop)]
+#[derive(Clone, Copy)]
 pub struct Ended {
     pub bench: Bench,
     pub numbers: usize,

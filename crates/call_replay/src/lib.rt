@@ -1,4 +1,6 @@
 // A list of calls, run on a fresh bench; what they answer and leave, as numbers: of 32 bits where they tell the bench, else of 16.
+#![tactic(auto)]
+
 mod benches;
 mod replies;
 mod requests;
@@ -12,7 +14,7 @@ use bench_store::Limits;
 use c_answers::Answer;
 
 // The sizes of the lists.
-#[derive(Drop)]
+#[derive(Clone, Copy)]
 pub struct Sizes {}
 
 impl Sizes {

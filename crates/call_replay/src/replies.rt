@@ -11,7 +11,7 @@ use bench_promises::RestReply;
 use c_answers::replies::Reply;
 
 // A call that was run.
-#[derive(Drop)]
+#[derive(Clone, Copy)]
 pub struct Done {
     pub bench: Bench,
     pub reply: Reply,

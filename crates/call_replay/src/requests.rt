@@ -5,7 +5,7 @@ ghost use Rattle.call_replay.specs.Steps.{begun_with, is_going, request_at, is_s
 use crate::Sizes;
 
 // A call as it stands in the list; `a` and `b` are 65,535 where a greater number stands there.
-#[derive(Drop)]
+#[derive(Clone, Copy)]
 pub struct Request {
     pub kind: u32,
     pub a: u16,
@@ -17,7 +17,7 @@ pub struct Request {
 }
 
 // How many calls are left, and the place after the replies put.
-#[derive(Drop)]
+#[derive(Clone, Copy)]
 pub struct Progress {
     pub left: usize,
     pub at: usize,

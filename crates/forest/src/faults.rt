@@ -9,7 +9,7 @@ use crate::routes;
 
 // Of a group: it is empty, it has a member outside the units, it has no primary.
 // Of a unit: its parent is outside the units, it is its own ancestor.
-#[derive(Drop)]
+#[derive(Clone, Copy)]
 pub enum Fault {
     EmptyGroup,
     OutsideMember,

@@ -1,4 +1,6 @@
 // Forests of units. `check` judges a drawn forest; `build` lays one out from a list of groups.
+#![tactic(auto)]
+
 pub mod counting;
 mod drawing;
 mod faults;
@@ -9,7 +11,7 @@ ghost use Rattle.std.specs.Prelude.{◌≡◌};
 ghost use Rattle.forest.specs.Calls.{refusal, or_roots, build_refusal, build_parents, check_refusal, check_parents};
 
 // What a call says of its input; `refusal` of specs/Calls.antt gives each case its number in document 01, and what it carries.
-#[derive(Drop)]
+#[derive(Clone, Copy)]
 pub enum Verdict {
     Accepted,
     BadCounts,
@@ -20,7 +22,7 @@ pub enum Verdict {
 }
 
 // The verdict and, where it is Accepted, the 32 parents; beside a refusal all of them are 255.
-#[derive(Drop)]
+#[derive(Clone, Copy)]
 pub struct Answer {
     pub verdict: Verdict,
     pub parents: [u8; 32],

@@ -7,7 +7,7 @@ ghost use Rattle.forest.specs.Forest.{on_route, route as route_of};
 ghost use Rattle.forest.specs.Routes.{ancestor_table, Ancestors};
 
 // The primary of each group, 32 where it has none, and its route, empty where it has no primary.
-#[derive(Drop)]
+#[derive(Clone, Copy)]
 pub struct RouteTable {
     pub primaries: [u8; 24],
     pub routes: [u32; 24],

@@ -1,8 +1,10 @@
 // Builds a forest of 32 units and 24 groups 10,000 times for each kind of table, and prints a checksum of all parents.
 // The first argument names one kind; with none, or another word, all three are run.
+#![tactic(auto)]
+
 use libc::STDOUT_FILENO;
 
-#[derive(Drop)]
+#[derive(Clone, Copy)]
 enum Kind {
     Random,
     Chain,
@@ -10,14 +12,14 @@ enum Kind {
 }
 
 // A set of units, and the seed that the next draw starts from.
-#[derive(Drop)]
+#[derive(Clone, Copy)]
 struct Draw {
     members: u32,
     seed: u32,
 }
 
 // A table of groups, and the seed that the next table starts from.
-#[derive(Drop)]
+#[derive(Clone, Copy)]
 struct Table {
     groups: [u32; 24],
     seed: u32,

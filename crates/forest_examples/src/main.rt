@@ -1,4 +1,6 @@
 // Forests built, drawn and turned away, as document 01 tells: a line for each.
+#![tactic(auto)]
+
 use forest::{Answer, Verdict};
 use libc::STDOUT_FILENO;
 

@@ -1,5 +1,7 @@
 // What a bench computes of its forest once, as one list of numbers: columns of the members of each group, its route (document 01: way) and
 // its primary, of the children and the parent of each unit, and last the numbers of units and groups.
+#![tactic(auto)]
+
 ghost use Rattle.std.specs.Prelude.{◌≡◌, ◌+◌, ◌*◌, ◌%◌, ◌/◌, length};
 ghost use Rattle.sets.specs.Sets.{size as size_of};
 ghost use Rattle.layout.specs.Tables.{tabulate};
@@ -9,7 +11,7 @@ ghost use Rattle.forest_tables.specs.Computed.{group_in, route_in, primary_in, c
 use bench_store::{Limits, columns};
 
 // Where the columns begin.
-#[derive(Drop)]
+#[derive(Clone, Copy)]
 pub struct Tables {}
 
 impl Tables {

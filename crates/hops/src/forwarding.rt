@@ -7,7 +7,7 @@ use bench_store::counts::PairCounts;
 use bench_store::{Limits, counts};
 
 // The hops that one copy taken makes.
-#[derive(Drop)]
+#[derive(Clone, Copy)]
 pub struct Outgoing {
     pub sender: u8,
     pub message: u16,

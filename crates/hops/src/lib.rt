@@ -1,5 +1,7 @@
 // The hops of a bench: records in a list that the caller lends. Every access to a record goes through `read`, `message_at`, `state_at`,
 // `set_state`, `append` and `clear`. Every function is total: a place past the list reads as zeros, and nothing is stored there.
+#![tactic(auto)]
+
 
 mod forwarding;
 

@@ -1,4 +1,6 @@
 // The layout of a forest from a table of groups: the rule by which `build` sets parents. The groups are read in the table, which stays.
+#![tactic(auto)]
+
 ghost use Rattle.std.specs.Prelude.{◌≡◌, true, length, ◌<◌};
 ghost use Rattle.layout.specs.Tables.{tabulate};
 ghost use Rattle.layout.specs.Build.{groups_of, absorbed as absorbedOf, spread as spread_of, component as componentOf};

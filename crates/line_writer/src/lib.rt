@@ -1,5 +1,7 @@
 // Lines of a bench file (document 01), written to a lent list from a place on, each with its LF. Each function answers the place after it;
 // at the list's end writing stops.
+#![tactic(auto)]
+
 ghost use Rattle.std.specs.Prelude.{true, [], ◌∷◌, ◌++◌, take};
 ghost use Rattle.text.specs.Text.{decimal};
 ghost use Rattle.text.specs.Writing.{Written};

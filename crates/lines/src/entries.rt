@@ -10,7 +10,7 @@ use text::reading::{find, is_word, number};
 
 // What the line says: document 01's number for its fault or 0; how many bytes it takes with its LF; whether it is `build`; the 32 parents.
 // Beside a fault it takes 0 bytes; beside a fault, and for `build`, all parents are 255.
-#[derive(Drop)]
+#[derive(Clone, Copy)]
 pub struct Drawing {
     pub fault: u8,
     pub used: usize,
@@ -19,7 +19,7 @@ pub struct Drawing {
 }
 
 // What the entries so far say: whether one is badly written; whether one is no unit; how many there are, counted to 256; the parents.
-#[derive(Drop)]
+#[derive(Clone, Copy)]
 pub struct Entries {
     pub bad: bool,
     pub outside: bool,

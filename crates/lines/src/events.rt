@@ -9,7 +9,7 @@ use text::reading::{find, number, starts_with};
 
 // What the line says: document 01's number for its fault or 0; how many bytes it takes with its LF; its three numbers. Beside a fault all
 // are 0.
-#[derive(Drop)]
+#[derive(Clone, Copy)]
 pub struct EventField {
     pub fault: u8,
     pub used: usize,
@@ -19,7 +19,7 @@ pub struct EventField {
 }
 
 // What the numbers of a send so far say: how many there are, counted to 4, and the first three.
-#[derive(Drop)]
+#[derive(Clone, Copy)]
 pub struct Triple {
     pub count: usize,
     pub first: u64,

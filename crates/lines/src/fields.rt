@@ -6,7 +6,7 @@ ghost use Rattle.lines.specs.Fields.{end_at, no_field, field_at};
 use text::reading::{find, number, starts_with};
 
 // What a line says: document 01's number for its fault or 0; how many bytes it takes with its LF; the number. Beside a fault both are 0.
-#[derive(Drop)]
+#[derive(Clone, Copy)]
 pub struct Field {
     pub fault: u8,
     pub used: usize,

@@ -1,5 +1,7 @@
 // The lines of a bench file (document 01; document 02, #101): the line readers, each handed the rest of a file. Every public function is
 // total.
+#![tactic(auto)]
+
 mod entries;
 mod events;
 mod fields;

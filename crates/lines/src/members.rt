@@ -11,7 +11,7 @@ use text::reading::{find, number};
 
 // What the members so far say: whether one is badly written; whether one is no unit; whether one does not rise; the least that the next may
 // be; their set.
-#[derive(Drop)]
+#[derive(Clone, Copy)]
 pub struct Members {
     pub bad: bool,
     pub outside: bool,

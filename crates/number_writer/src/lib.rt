@@ -1,4 +1,6 @@
 // Numbers put into a lent list from a place on. Each function answers the place after them; at the list's end writing stops.
+#![tactic(auto)]
+
 ghost use Rattle.std.specs.Prelude.{[], ◌∷◌};
 ghost use Rattle.text.specs.Writing.{Written};
 

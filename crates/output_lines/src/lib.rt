@@ -1,5 +1,7 @@
 // Lines that the program prints (document 01), put into a lent list from a place on, each with its LF. Each function answers the place
 // after it; at the list's end writing stops.
+#![tactic(auto)]
+
 ghost use Rattle.std.specs.Prelude.{[], ◌∷◌, ◌++◌};
 ghost use Rattle.text.specs.Writing.{Written};
 ghost use Rattle.output_lines.specs.Output.{refused_line, message_texts, log_line, hops_line, rest_line};

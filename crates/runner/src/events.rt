@@ -11,7 +11,7 @@ use bench_promises::{ArriveReply, SendReply, Totals};
 use bench_store::Limits;
 
 // How far a run has come; the lists of the bench are lent (crate `bench_engine`).
-#[derive(Drop)]
+#[derive(Clone, Copy)]
 pub struct Progress {
     pub totals: Totals,
     // the place after what was printed
@@ -27,7 +27,7 @@ pub struct Progress {
 
 // An event as it stands in the list (document 01): of a send source+1, group and word, of an arrival 0, hop and 0. Only a word may need
 // more than 16 bits (document 02, #101).
-#[derive(Drop)]
+#[derive(Clone, Copy)]
 pub struct Event {
     pub first: u16,
     pub second: u16,

@@ -1,4 +1,6 @@
 // The program as one function on slices: from the bytes of a bench file to the bytes printed (document 01, "The bench file").
+#![tactic(auto)]
+
 mod benches;
 mod events;
 mod reading;
@@ -14,14 +16,14 @@ use bench_store::Limits;
 use benchfile::Content;
 
 // What `run` says: how many bytes it printed. `run_answer` of specs/Printed.antt gives document 01's number and the values of each case.
-#[derive(Drop)]
+#[derive(Clone, Copy)]
 pub enum RunReply {
     Printed(usize),
     ListTooShort,
 }
 
 // The reply, and the sum of the numbers that all answers of taken carry.
-#[derive(Drop)]
+#[derive(Clone, Copy)]
 pub struct RunAnswer {
     pub reply: RunReply,
     pub taken: u16,

@@ -10,7 +10,7 @@ use bench_promises::RestReply;
 use bench_store::Limits;
 
 // How many bytes were printed, and the sum of the numbers that the answers of taken carry.
-#[derive(Drop)]
+#[derive(Clone, Copy)]
 pub struct Totals {
     pub bytes: usize,
     pub taken: u16,

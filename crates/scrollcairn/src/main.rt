@@ -1,5 +1,7 @@
 // The program: a bench file on standard input is run, and what it prints goes to standard output. One byte more than a file may have is
 // read, so that a file which is too long is seen to be.
+#![tactic(auto)]
+
 use libc::{STDIN_FILENO, STDOUT_FILENO};
 use runner::{RunAnswer, RunReply};
 

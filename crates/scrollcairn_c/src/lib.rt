@@ -1,5 +1,7 @@
 // The calls of include/scrollcairn.h and scrollcairn_replay.h, for other languages. The promise of each is in the rules' terms
 // (specs/Exported.antt; of the live calls specs/Live.antt).
+#![tactic(auto)]
+
 mod answers;
 mod contents;
 pub mod live;

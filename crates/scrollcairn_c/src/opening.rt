@@ -17,7 +17,7 @@ use c_answers::replies::Reply;
 use forest::Verdict;
 
 // A forest that was looked at: its groups, its parents, and what the call says of it.
-#[derive(Drop)]
+#[derive(Clone, Copy)]
 pub struct Opening {
     pub groups: [u32; Limits::GROUPS],
     pub parents: [u8; Limits::UNITS],

@@ -15,7 +15,7 @@ use forest_tables::Tables;
 
 // The totals of the bench after a call, and its reply.
 #[repr(C)]
-#[derive(Drop)]
+#[derive(Clone, Copy)]
 pub struct Step {
     pub totals: Totals,
     pub reply: Reply,

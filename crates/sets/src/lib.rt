@@ -1,5 +1,7 @@
 // Sets of numbers below 32 (units, or groups) as one u32, whose bit u says whether u is in the set. Every function is total: a number from
 // 32 on is in no set.
+#![tactic(auto)]
+
 ghost use Rattle.std.specs.Prelude.{◌≡◌};
 ghost use Rattle.sets.specs.Sets.{member as isMember, union as unionOf, intersection as intersectionOf};
 ghost use Rattle.sets.specs.Sets.{difference as differenceOf, including as includingOf, excluding as excludingOf};

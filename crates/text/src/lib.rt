@@ -1,3 +1,5 @@
 // Text as bytes: decimal numbers, keys and separators, read from a slice and written to one. Every function is total.
+#![tactic(auto)]
+
 pub mod reading;
 pub mod writing;

@@ -51,14 +51,11 @@ same_grids (g ∷ gs) = λ i. same_grid g i ∷ same_grids gs i
 
 -- from the struct to its arrays, and back
 pub grids_is : (d : PairCounts) (vs : List Val) → Is T.the_row d vs → Is Grids d.grids (grids_vals d.grids)
-grids_is d vs p =
-    subst (λ (gs : List (List (List ℕ))). Is Grids gs (grids_vals gs)) (same_grids d.grids)
-    (LL.owed T.the_type T'.the_laws d vs p).0
+grids_is d vs p = (LL.owed T.the_type T'.the_laws d vs p).0
 
 pub counts-is : (d : PairCounts) → Is Grids d.grids (grids_vals d.grids) → Is T.the_row d (counts_vals d)
 counts-is d p =
-    let plain = subst (λ (gs : List (List (List ℕ))). Is Grids gs (grids_vals gs)) (sym (same_grids d.grids)) p in
-    let is = LL.owes T.the_type T'.the_laws d (plain, tt) in
+    let is = LL.owes T.the_type T'.the_laws d (p, tt) in
     subst (λ (vs : List Val). Is T.the_row d vs) ((T'.lowers).val_is d _ is) is
 
 module _ {M : Type 1} {𝓤 : Ura M} (𝓛 : Logic 𝓤) where

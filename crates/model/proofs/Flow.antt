@@ -44,6 +44,7 @@ has_in x (c ∷ cs) h = ⊎_elim (λ e. here (sym (eqb-true c x e))) (λ r. ther
 
 in_has : (x : ℕ) (cs : List ℕ) → In x cs → has x cs ≡ true
 unfolding has
+in_has x [] i = elim i [ ]
 in_has x (c ∷ cs) (here e) = or_left (eqb c x) _ (eq-eqb c x (sym e))
 in_has x (c ∷ cs) (there i) = or_right (eqb c x) _ (in_has x cs i)
 

@@ -103,10 +103,12 @@ module _ {A : Type 0} where
   distinct_append_apart (y ∷ l) r (adds n d) (there i) j = distinct_append_apart l r d i j
 
   pub before_irrefl : {a : A} {l : List A} → Distinct l → Before a a l → ⊥
+  before_irrefl {a = a} empty x3 = elim x3 [ ]
   before_irrefl (adds n d) (first e i) = n (rw e at i)
   before_irrefl (adds n d) (later p) = before_irrefl d p
 
   pub before_trans : {a b c : A} {l : List A} → Distinct l → Before a b l → Before b c l → Before a c l
+  before_trans {a = a} {b = b} {c = c} empty x5 _ = elim x5 [ ]
   before_trans (adds n d) (first e i) (first f j) = first e j
   before_trans (adds n d) (first e i) (later q) = first e (before_in q).1
   before_trans (adds n d) (later p) (first f j) = absurd (n (rw f at (before_in p).1))

@@ -28,6 +28,7 @@ use Rattle.model.proofs.Lists.{in_push, in_push_front, in_push_cases, distinct_p
 
 pub rising_in : (k i : ℕ) (test : ℕ → Bool) (x : ℕ) → In x (rising k i test) → (i ≤ x) × (x < i + k) × (test x ≡ true)
 unfolding rising
+rising_in zero i test x m = elim m [ ]
 rising_in (suc k) i test x m = ⊎_elim
     (λ (p : (test i ≡ true) × (x ≡ i)). let e = p.1 in (omega arith, omega arith, rw e p.0))
     (λ n. let r = rising_in k (suc i) test x n in (omega arith, omega arith, r.2))
@@ -81,6 +82,7 @@ module _ (f : ℕ → ℕ) where
 
   in_gathered : (l : List ℕ) {c : ℕ} (x : ℕ) → In c l → member (f c) x ≡ true → member (gathered f l) x ≡ true
   unfolding gathered
+  in_gathered [] {c = c} x x4 m = elim x4 [ ]
   in_gathered (d ∷ ds) x (here e) m = member_union (f d) (gathered f ds) x ∙ or_left (member (f d) x) _ (rw e at m)
   in_gathered (d ∷ ds) x (there n) m = member_union (f d) (gathered f ds) x ∙ or_right (member (f d) x) _ (in_gathered ds x n m)
 

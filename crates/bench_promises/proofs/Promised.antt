@@ -400,5 +400,5 @@ log-place b u book part e = record {
     at : {x : Bench} → b ≡ x → start b ≡ start x
     at f = ap start f
 
-    from : (x : ℕ) → start b * 2 + book.ptr.1 ≡ x → part.ptr ≡ (book.ptr.0, x)
-    from x same = e ∙ (λ i. (book.ptr.0, same i))
+    from : (x : ℕ) → start b * 2 + book.ref_ptr.1 ≡ x → part.ref_ptr ≡ (book.ref_ptr.0, x)
+    from x same = e ∙ (λ i. (book.ref_ptr.0, same i))

@@ -1,4 +1,2 @@
-pub mod Called
 pub mod Forwards
 pub mod Places
-pub mod Records

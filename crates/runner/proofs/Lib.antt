@@ -8,4 +8,3 @@ pub mod EventRuns
 pub mod Runs
 pub mod Outcomes
 pub mod LogTexts
-pub mod Known

@@ -4,4 +4,3 @@ pub mod Refused
 pub mod Made
 pub mod Opened
 pub mod Theorems
-pub mod Known

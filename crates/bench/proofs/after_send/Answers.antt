@@ -1,0 +1,8 @@
+-- The bench is what `with_lists` ensures.
+use borrow.Author.Rules.{rules}
+use Rattle.bench.specs.Lists.{sent_with}
+use Rattle.bench.proofs.after_send.Goals as goal
+
+pub returns : goal.returns
+unfolding sent_with
+returns c = rw c.with_lists-next.ensures

@@ -1,0 +1,13 @@
+-- The test is the rule's.
+use borrow.Author.Tests.{eq-eqb, ne_eqb}
+use Rattle.bench_promises.specs.Machine.{finished_reply}
+use Rattle.model.specs.Rules.{refuse}
+use Rattle.bench_engine.proofs.arriving.reply.Goals as goal
+
+pub returns-then-a-eq0 : goal.returns-then-a-eq0
+unfolding finished_reply refuse
+returns-then-a-eq0 c = rw (eq-eqb _ _ c.if-a-eq0.true)
+
+pub returns : goal.returns
+unfolding finished_reply refuse
+returns c = rw (ne_eqb _ _ c.if-a-eq0.false)

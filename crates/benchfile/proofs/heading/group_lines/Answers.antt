@@ -1,0 +1,33 @@
+use borrow.Author.Rules.{rules}
+use Prim.Native.Nat.{◌-◌}
+use native.Mathlib.Omega.{arith}
+use Rattle.benchfile.proofs.HeadingLines.{GroupsSoFar, groups_none, groups-refused, group-inside, groups-turn, groups-read}
+use Rattle.benchfile.proofs.heading.group_lines.Goals as goal
+
+pub loop-i-init : goal.loop-i-init
+loop-i-init c = groups_none _ _ _
+
+pub returns-then-line-ne0 : goal.returns-then-line-ne0
+returns-then-line-ne0 c =
+    let turn = c in
+    groups-refused turn.loop-i.invariant turn.loop-i-test.true _ c.group-line.ensures c.if-line-ne0.true
+
+pub overflow_add-at : goal.overflow_add-at
+overflow_add-at c =
+    let line = c in let turn = line in
+    omega (arith, group-inside turn.loop-i.invariant turn.loop-i-test.true _ line.group-line.ensures c.if-line-ne0.false)
+
+pub overflow_add-i : goal.overflow_add-i
+overflow_add-i c = omega arith
+
+pub loop-i-smaller : goal.loop-i-smaller
+loop-i-smaller c = omega arith
+
+pub loop-i-preserved : goal.loop-i-preserved
+loop-i-preserved c =
+    let line = c in let turn = line in
+    groups-turn turn.loop-i.invariant turn.loop-i-test.true _ line.group-line.ensures c.if-line-ne0.false
+    c.with_group-next.ensures
+
+pub returns : goal.returns
+returns c = groups-read c.loop-i.invariant c.loop-i-test.false

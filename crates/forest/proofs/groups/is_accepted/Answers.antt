@@ -1,0 +1,28 @@
+use borrow.Author.Rules.{rules}
+use mathlib.Core.Path.{sym, ap}
+use Rattle.forest.specs.Calls.{refusal, accepts}
+use Rattle.forest.proofs.groups.is_accepted.Goals as goal
+
+pub returns-in-Accepted : goal.returns-in-Accepted
+unfolding accepts refusal
+returns-in-Accepted c = sym (ap accepts c.enum_told.given.1)
+
+pub returns-in-BadCounts : goal.returns-in-BadCounts
+unfolding accepts refusal
+returns-in-BadCounts c = sym (ap accepts c.enum_told-in-BadCounts-1.given.1)
+
+pub returns-in-EmptyGroup : goal.returns-in-EmptyGroup
+unfolding accepts refusal
+returns-in-EmptyGroup c = sym (ap accepts c.enum_told-in-EmptyGroup-1.given.1)
+
+pub returns-in-OutsideUnits : goal.returns-in-OutsideUnits
+unfolding accepts refusal
+returns-in-OutsideUnits c = sym (ap accepts c.enum_told-in-OutsideUnits-1.given.1)
+
+pub returns-in-OwnAncestor : goal.returns-in-OwnAncestor
+unfolding accepts refusal
+returns-in-OwnAncestor c = sym (ap accepts c.enum_told-in-OwnAncestor-1.given.1)
+
+pub returns-in-NoPrimary : goal.returns-in-NoPrimary
+unfolding accepts refusal
+returns-in-NoPrimary c = sym (ap accepts c.enum_told-in-NoPrimary-1.given.1)

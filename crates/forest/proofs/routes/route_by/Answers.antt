@@ -1,0 +1,16 @@
+use borrow.Author.Rules.{rules}
+use mathlib.Core.Path.{ap₂, ◌∙◌}
+use Prim.Native.Nat.{ℕ}
+use Rattle.sets.specs.Sets.{collect}
+use Rattle.forest.specs.Forest.{on_route, route}
+use Rattle.forest.proofs.AncestorTables.{any_known}
+use Rattle.forest.proofs.routes.route_by.Goals as goal
+
+pub returns : goal.returns
+unfolding route
+returns c ps h e =
+    let some = c in
+    let start = some in
+    c.below_primary.ensures ps (any_known h some.above_some-some.type-inv)
+    ∙ ap₂ (λ (top some : ℕ). collect 32 (on_route ps top some)) e
+    (some.above_some-some.ensures ps (any_known h start.ranges.group.fits))

@@ -1,0 +1,15 @@
+use borrow.Author.Rules.{rules}
+use mathlib.Core.Path.{◌≡◌, sym, ap, ◌∙◌}
+use Prim.Native.Nat.{ℕ, suc, ◌-◌}
+use native.Mathlib.Omega.{arith}
+use Rattle.sets.specs.Sets.{single}
+use Rattle.layout.specs.Build.{rounds, component}
+use Rattle.layout.proofs.Parts.{rounds_fixed}
+use Rattle.layout.proofs.component.Given as goal
+
+-- what is left to spread leads to the component
+abbrev pub invariant-loop-left : goal.invariant-loop-left
+invariant-loop-left l = rounds l.left l.groups l.live l.set ≡ component l.groups l.live l.u
+
+abbrev pub decreases-loop-left : goal.decreases-loop-left
+decreases-loop-left l = l.left

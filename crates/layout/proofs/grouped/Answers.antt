@@ -1,0 +1,25 @@
+use borrow.Author.Rules.{rules}
+use mathlib.Core.Path.{refl, ap, ◌∙◌}
+use Prim.Native.Nat.{ℕ, ◌-◌}
+use native.Mathlib.Omega.{arith}
+use lib.ListN.{get_or}
+use Rattle.sets.specs.Sets.{union}
+use Rattle.layout.specs.Layout.{grouped_within}
+use Rattle.layout.proofs.Loops.{Reached, reached-turn, reached-all}
+use Rattle.layout.proofs.grouped.Goals as goal
+
+pub loop-i-init : goal.loop-i-init
+unfolding grouped_within
+loop-i-init c = record { within = omega arith; right = refl }
+
+pub loop-i-preserved : goal.loop-i-preserved
+unfolding grouped_within
+loop-i-preserved c =
+    let turn = c in
+    let inv = turn.loop-i.invariant in
+    let gs = turn.args.groups.now in
+    reached-turn inv turn.loop-i-test.true
+    (c.union-set.ensures ∙ ap (λ (x : ℕ). union x (get_or gs turn.loop-i.i 0)) inv.right)
+
+pub returns : goal.returns
+returns c = reached-all c.loop-i.invariant c.loop-i-test.false

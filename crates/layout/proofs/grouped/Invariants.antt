@@ -1,0 +1,15 @@
+use borrow.Author.Rules.{rules}
+use mathlib.Core.Path.{refl, ap, ◌∙◌}
+use Prim.Native.Nat.{ℕ, ◌-◌}
+use native.Mathlib.Omega.{arith}
+use lib.ListN.{get_or}
+use Rattle.sets.specs.Sets.{union}
+use Rattle.layout.specs.Layout.{grouped_within}
+use Rattle.layout.proofs.Loops.{Reached, reached-turn, reached-all}
+use Rattle.layout.proofs.grouped.Given as goal
+
+abbrev pub invariant-loop-i : goal.invariant-loop-i
+invariant-loop-i l = Reached 24 (λ k. grouped_within k l.groups) l.set l.i
+
+abbrev pub decreases-loop-i : goal.decreases-loop-i
+decreases-loop-i l = 24 - l.i

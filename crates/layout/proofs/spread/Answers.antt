@@ -1,0 +1,66 @@
+use borrow.Author.Rules.{rules}
+use mathlib.Core.Path.{◌≡◌, refl, sym, ap, ◌∙◌}
+use Prim.Native.Nat.{ℕ, ◌<◌}
+use native.Mathlib.Omega.{arith}
+use lib.Dec.{lit≤}
+use lib.ListN.{get_or}
+use mathlib.Core.Bool.{true}
+use Rattle.sets.specs.Sets.{intersection, below, size, lowest}
+use Rattle.sets.proofs.Laws.{intersection-below, below-below}
+use Rattle.sets.proofs.Members.{Left, left-all, next-member, left-turn, left_less, visits_start, visits_turn, visits_end}
+use Rattle.layout.specs.Build.{absorbed, spread}
+use Rattle.layout.proofs.Parts.{live-place, live_below, spread-still}
+use Rattle.layout.proofs.spread.Goals as goal
+
+pub loop-left-init : goal.loop-left-init
+unfolding spread
+loop-left-init c =
+    let a = c.args in
+    let e : c.intersection-left.result ≡ intersection (below 24) a.live = c.intersection-left.ensures
+    ∙ ap (λ (x : ℕ). intersection x a.live) c.below.ensures in
+    rw e (
+      left-all _ (intersection-below 32 (below 24) a.live (below-below 24)),
+      visits_start _ _ (spread-still a.groups.now a.live a.s c.requires) refl,
+    )
+
+-- the next group stands at one of the 24 places
+place : (c : tie.After-lowest invariant-loop decreases-loop) → c.lowest-k.result < 24
+place c =
+    let turn = c in
+    let next = next-member turn.loop-left.invariant.0 turn.loop-left-test.true c.lowest-k.ensures in
+    (live-place turn.args.groups.now _ c.lowest-k.result next.1).0
+
+pub offset_bounds-groups-k : goal.offset_bounds-groups-k
+offset_bounds-groups-k c = record { fits = omega (arith, place c) }
+
+pub bounds-groups-k : goal.bounds-groups-k
+bounds-groups-k c = place c
+
+pub loop-left-smaller : goal.loop-left-smaller
+loop-left-smaller c =
+    let turn = c in
+    left_less turn.loop-left.invariant.0 turn.loop-left-test.true c.lowest-k.ensures c.excluding-left.ensures
+
+pub loop-left-preserved : goal.loop-left-preserved
+unfolding spread
+loop-left-preserved c =
+    let turn = c in
+    let inv = turn.loop-left.invariant in
+    let start = turn in
+    let a = start.args in
+    let gs = a.groups.now in
+    let low = c.lowest-k in (
+      left-turn inv.0 turn.loop-left-test.true low.ensures c.excluding-left.ensures,
+      visits_turn _ _ (spread-still gs a.live a.s start.requires) inv.0 turn.loop-left-test.true low.ensures
+          c.excluding-left.ensures inv.1
+          (λ b m e. c.absorbed-set.ensures ∙ ap (λ (x : ℕ). absorbed x (get_or gs low.result 0) true) e
+          ∙ ap (absorbed (spread low.result gs a.live a.s) (get_or gs low.result 0))
+          (sym (live-place gs a.live low.result m).1)),
+    )
+
+pub returns : goal.returns
+returns c =
+    let start = c in
+    let a = start.args in
+    visits_end _ _ (spread-still a.groups.now a.live a.s start.requires) 24 (live_below a.live) (lit≤ tt)
+    c.loop-left.invariant.1 c.loop-left-test.false

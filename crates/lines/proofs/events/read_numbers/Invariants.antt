@@ -1,0 +1,17 @@
+-- The loop's invariant: the numbers from `at` on, behind those read so far, say what all numbers say.
+use borrow.Author.Rules.{rules}
+use native.Mathlib.Omega.{arith}
+use mathlib.Core.Path.{ap, ◌∙◌}
+use Prim.Native.Nat.{◌+◌, ◌-◌, ◌≤◌}
+use lib.ListN.{length}
+use Rattle.text.specs.Text.{number}
+use Rattle.lines.specs.Lines.{numbers_in}
+use Rattle.lines.specs.Fields.{no_numbers, with_number}
+use Rattle.lines.proofs.Ends.{Reading, reading-start, reading-within, reading-turn, reading-end}
+use Rattle.lines.proofs.events.read_numbers.Given as goal
+
+abbrev pub invariant-loop-at : goal.invariant-loop-at
+invariant-loop-at l = Reading with_number no_numbers number l.value l.found l.at
+
+abbrev pub decreases-loop-at : goal.decreases-loop-at
+decreases-loop-at l = length l.value + 1 - l.at

@@ -1,0 +1,14 @@
+-- The loop's invariant: the first `i` are written.
+use Prim.Native.Nat.{◌-◌, ◌≤◌}
+use native.Mathlib.Omega.{arith}
+use lib.ListN.{length, take}
+use borrow.Author.Rules.{rules}
+use Rattle.text.specs.Writing.{Written}
+use Rattle.text.proofs.Written.{written_none, written-more, written-length, written_all}
+use Rattle.number_writer.proofs.put_widened.Given as goal
+
+abbrev pub invariant-loop-i : goal.invariant-loop-i
+invariant-loop-i l = (l.i ≤ length l.numbers) × Written (take l.i l.numbers) l.at l.initial.out l.next l.out
+
+abbrev pub decreases-loop-i : goal.decreases-loop-i
+decreases-loop-i l = length l.numbers - l.i

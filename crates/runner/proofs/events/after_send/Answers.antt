@@ -1,0 +1,8 @@
+-- The refusal is the rule's.
+use borrow.Author.Rules.{rules}
+use Rattle.runner.specs.Steps.{after_send}
+use Rattle.runner.proofs.events.after_send.Goals as goal
+
+pub returns : goal.returns
+unfolding after_send
+returns c = rw c.send_refusal.ensures

@@ -1,0 +1,11 @@
+-- The reply is told by its three numbers.
+use borrow.Author.Rules.{rules}
+use Rattle.c_answers.proofs.Threes.{reply-is}
+use Rattle.scrollcairn_c.specs.Live.{step_of}
+use Rattle.scrollcairn_c.proofs.steps.after_arrive.Goals as goal
+
+pub returns : goal.returns
+unfolding step_of
+returns c =
+    let arg = c.args.arrived in
+    λ i. record { totals = arg.totals; reply = reply-is c.of_arrive.result _ c.of_arrive.ensures i }

@@ -1,0 +1,7 @@
+-- The reply is told by its three numbers.
+use borrow.Author.Rules.{rules}
+use Rattle.c_answers.proofs.Threes.{reply-is}
+use Rattle.scrollcairn_c.proofs.steps.after_rest.Goals as goal
+
+pub returns : goal.returns
+returns c = reply-is c.of_rest.result _ c.of_rest.ensures

@@ -1,0 +1,7 @@
+use mathlib.Core.Path.{refl}
+use Rattle.sets.specs.Sets.{intersection}
+use Rattle.sets.proofs.intersection.Goals as goal
+
+pub returns : goal.returns
+unfolding intersection
+returns c = refl

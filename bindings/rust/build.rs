@@ -1,4 +1,4 @@
-//! Links libscrollcairn_c.a from the folder in SCROLLCAIRN_LIB, or else from target/staticlib of the repository.
+//! Links libscrollcairn_c.a from the folder in SCROLLCAIRN_LIB, or else from crates/scrollcairn_c/out of the repository.
 
 use std::{env, path::PathBuf};
 
@@ -7,7 +7,7 @@ fn main() {
     let here = PathBuf::from(env::var_os("CARGO_MANIFEST_DIR").expect("set by cargo"));
     let folder = match env::var_os("SCROLLCAIRN_LIB") {
         Some(folder) => PathBuf::from(folder),
-        None => here.join("../../target/staticlib"),
+        None => here.join("../../crates/scrollcairn_c/out"),
     };
     let archive = folder.join("libscrollcairn_c.a");
     println!("cargo:rerun-if-changed={}", archive.display());

@@ -123,7 +123,8 @@ module _ (L : Ledger) (ms : List Message) (hs : List Hop) (ls : List (List ℕ))
     unfolding refused left_of answer_of refuse is_closed closed_reply arrive_answer
     not_made over =
         let e : number ≡ 16 = number_is ∙ ap (λ (t : Bool). refuse t 16 0) (le-leb (length hs) j over) in
-        unchanged (refused 16 W) refl (ap (λ (k : ℕ). is_closed k (hop_at lent j)) e) (ap (λ (k : ℕ). arrive_answer (closed_reply k)) e)
+        unchanged (refused 16 W) refl (ap (λ (k : ℕ). is_closed k (hop_at lent j)) e) (ap (λ (k : ℕ). arrive_answer (closed_reply k))
+        e)
 
     module _ (made : j < length hs) where
       number-none : number ≡ 0
@@ -141,7 +142,8 @@ module _ (L : Ledger) (ms : List Message) (hs : List Hop) (ls : List (List ℕ))
       -- held or taken before
       repeated : is_out (hop_at hs j) ≡ false → Agree (outcome Repeat W)
       unfolding left_of answer_of refuse closed_reply arrive_answer
-      repeated t = unchanged (outcome Repeat W) refl (closed_is ∙ ap not t) (ap (λ (k : ℕ). arrive_answer (closed_reply k)) number-none)
+      repeated t = unchanged (outcome Repeat W) refl (closed_is ∙ ap not t) (ap (λ (k : ℕ). arrive_answer (closed_reply k))
+          number-none)
 
       -- ---- out: the hop is held, and its pair is settled
 
@@ -216,7 +218,8 @@ module _ (L : Ledger) (ms : List Message) (hs : List Hop) (ls : List (List ℕ))
 
         sequence-is : plus (pair_taken s r hs) 1 ≡ suc (pair_taken s r hs)
         sequence-is =
-            plus-small (pair_taken s r hs) 1 (omega (arith, taken-within s r hs, count-few s r hs, few-hops)) ∙ add-one (pair_taken s r hs)
+            plus-small (pair_taken s r hs) 1 (omega (arith, taken-within s r hs, count-few s r hs, few-hops))
+            ∙ add-one (pair_taken s r hs)
 
         is-next : is_next (pair_taken s r hs) (hop_at hs j) ≡ true → (hop_at hs j).sequence ≡ suc (pair_taken s r hs)
         unfolding is_next
@@ -356,7 +359,8 @@ module _ (L : Ledger) (ms : List Message) (hs : List Hop) (ls : List (List ℕ))
           pairs-updated : added_in (pairs_of (hops_of W'') takes) 1 s r n ≡ (bench_of W'').pairs
           unfolding pairs_of bench_of hops_of
           pairs-updated =
-              pair-added _ 1 (λ x y. pair_taken x y hs) (λ x y. pair_taken x y (hops_of W'')) s r n refl refl to-s to-r few-taken own-total
+              pair-added _ 1 (λ x y. pair_taken x y hs) (λ x y. pair_taken x y (hops_of W'')) s r n refl refl to-s to-r few-taken
+              own-total
               (λ y ne. S.others s y (λ e f. ne f) ∙ hold-takes s y)
               (λ x y ne. S.others x y (λ e f. ne e) ∙ hold-takes x y)
 

@@ -19,7 +19,8 @@ use Rattle.forest.specs.Forest.{parent}
 use Rattle.forest.specs.Claims.{Above, itself, Acyclic}
 use Rattle.model.specs.declared.Hop.{Hop}
 use Rattle.model.specs.declared.Message.{Message}
-use Rattle.model.specs.Network.{Plan, group_of, route_of, Ledger, Network, network, no_hop, message_at, hop_at, ledger_of, messages_of, hops_of}
+use Rattle.model.specs.Network.{Plan, group_of, route_of, Ledger, Network, network, no_hop, message_at, hop_at, ledger_of, messages_of}
+use Rattle.model.specs.Network.{hops_of}
 use Rattle.model.specs.Network.{log_of, is_taken, with_state, set_state, pair_count, pair_taken}
 use Rattle.model.specs.Rules.{children_on, forward, logged, take_hop}
 use Rattle.model.specs.Claims.{Limits}
@@ -276,7 +277,8 @@ module _ (L : Ledger) (ms : List Message) (hs : List Hop) (ls : List (List ℕ))
   longer_is : longer_by a d ≡ length (log_of r W')
   unfolding longer_by arrival_of
   longer_is = ⊎_elim
-      (λ t. cond-true _ _ _ t ∙ plus-small (length (log_of r W)) 1 (omega (arith, before.log r)) ∙ add-one (length (log_of r W)) ∙ sym
+      (λ t. cond-true _ _ _ t ∙ plus-small (length (log_of r W)) 1 (omega (arith, before.log r)) ∙ add-one (length (log_of r W))
+      ∙ sym
       (log-count t))
       (λ t. cond-false _ _ _ t ∙ ap length (sym (log-kept t)))
       (either (member (group_of P g) r))

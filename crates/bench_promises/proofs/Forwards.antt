@@ -205,7 +205,8 @@ stored t v m x hs rest unit b ne room small =
 -- the lent hops once all are made
 abbrev Listed : List (List ℕ) → ℕ → ℕ → ℕ → List Hop → List Hop → ℕ → Type 0
 Listed t k v m hs rest x =
-    forwarded_hops k (forwarding_of t v m x hs) (padded 2000 no_hop hs ++ rest) ≡ padded 2000 no_hop (forward v m (members_of x) hs) ++ rest
+    forwarded_hops k (forwarding_of t v m x hs) (padded 2000 no_hop hs ++ rest) ≡ padded 2000 no_hop (forward v m (members_of x) hs)
+    ++ rest
 
 pub listed_all : (t : List (List ℕ)) (k v m x : ℕ) (hs rest : List Hop) → v < 32 → x < 2 ^ 32 → size x ≤ k
     → length (forward v m (members_of x) hs) ≤ 2000 → Listed t k v m hs rest x

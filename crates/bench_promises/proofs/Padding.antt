@@ -210,7 +210,8 @@ messages_snoc ms x b =
     let n : ℕ = length ms in let all : List Message = ms ++ x ∷ [] in
     let source : Message → ℕ = λ y. y.source in let group : Message → ℕ = λ y. y.group in
     let word : Message → ℕ = λ y. y.word in
-    let A : List ℕ = message_column source ms in let B : List ℕ = message_column group ms in let C : List ℕ = message_column word ms in
+    let A : List ℕ = message_column source ms in let B : List ℕ = message_column group ms in let C : List ℕ = message_column word ms
+    in
     let A' : List ℕ = message_column source all in let B' : List ℕ = message_column group all in
     let C' : List ℕ = message_column word all in
     let first : with_column (A ++ (B ++ C)) 0 200 n x.source ≡ A' ++ (B ++ C) =

@@ -13,7 +13,8 @@ use denote.Ref.{Bor}
 use Rattle.sets.proofs.Bools.{either, clash, or_left, or_right}
 use Rattle.layout.specs.Tables.{tabulate}
 use Rattle.model.specs.declared.Hop.{Hop}
-use Rattle.model.specs.Network.{Plan, Network, network, no_hop, hop_at, ledger_of, plan_in_use, hops_of, log_of, is_taken, set_state, sum_of, bit}
+use Rattle.model.specs.Network.{Plan, Network, network, no_hop, hop_at, ledger_of, plan_in_use, hops_of, log_of, is_taken, set_state}
+use Rattle.model.specs.Network.{sum_of, bit}
 use Rattle.model.specs.Network.{count_hops}
 use Rattle.model.specs.Rules.{Outcome, Refused, refuse, refused, answer_of, left_of, send, arrive, all_taken, quiescent}
 use Rattle.model.specs.Calls.{log, Rest}
@@ -29,7 +30,8 @@ use Rattle.bench_promises.specs.declared.replies.SendReply.{SendReply}
 use Rattle.bench_promises.specs.declared.arrival.Arrival.{Arrival}
 use Rattle.bench_promises.specs.declared.replies.ArriveReply.{ArriveReply}
 use Rattle.bench_promises.specs.declared.replies.ArriveReply.TheVariants.{Taken, Held}
-use Rattle.bench_promises.specs.Machine.{is_short, hops_of_fresh, book_of_fresh, fresh_bench, send_refusal, sent_reply, sequence_of, first_hop}
+use Rattle.bench_promises.specs.Machine.{is_short, hops_of_fresh, book_of_fresh, fresh_bench, send_refusal, sent_reply, sequence_of}
+use Rattle.bench_promises.specs.Machine.{first_hop}
 use Rattle.bench_promises.specs.Machine.{arrive_refusal, is_closed, closed_reply, finished_reply, rest_reply, unless_refused, log_start}
 use Rattle.bench_promises.specs.Machine.{log_count, log_part, log_reply}
 use Rattle.bench_promises.specs.Replies.{fresh_answer, send_answer, arrive_answer, rest_answer, log_answer, Length}
@@ -276,9 +278,11 @@ count-all (h ∷ hs) =
     let rest = count-all hs in ⊎_elim
     (λ (t : is_taken h ≡ true). simp t (⊎_elim
     (λ (a : all_taken hs ≡ true).
-    eq-eqb (1 + count_hops is_taken hs) (suc (length hs)) (omega (arith, eqb-true (count_hops is_taken hs) (length hs) (rest ∙ a))) ∙ sym a)
+    eq-eqb (1 + count_hops is_taken hs) (suc (length hs)) (omega (arith, eqb-true (count_hops is_taken hs) (length hs) (rest ∙ a)))
+    ∙ sym a)
     (λ (a : all_taken hs ≡ false).
-    ne_eqb (1 + count_hops is_taken hs) (suc (length hs)) (λ e. eqb-false (count_hops is_taken hs) (length hs) (rest ∙ a) (omega (arith, e)))
+    ne_eqb (1 + count_hops is_taken hs) (suc (length hs)) (λ e. eqb-false (count_hops is_taken hs) (length hs) (rest
+    ∙ a) (omega (arith, e)))
     ∙ sym a)
     (either (all_taken hs))))
     (λ (t : is_taken h ≡ false). simp t (ne_eqb (0 + count_hops is_taken hs) (suc (length hs))

@@ -51,11 +51,13 @@ search-first (suc k) s r i hs = ⊎_elim
       found = λ ne. t;
       until = omega arith;
     }))
-    (λ (t : is_pair s r (hop_at hs i) ≡ false). subst (FirstFrom s r i (i + suc k) hs) (sym (cond-false (is_pair s r (hop_at hs i)) _ _ t))
+    (λ (t : is_pair s r (hop_at hs i) ≡ false). subst (FirstFrom s r i (i + suc k) hs)
+    (sym (cond-false (is_pair s r (hop_at hs i)) _ _ t))
     (later t (search-first k s r (suc i) hs)))
     (either (is_pair s r (hop_at hs i)))
   where
-    later : is_pair s r (hop_at hs i) ≡ false → {p : ℕ} → FirstFrom s r (suc i) (suc i + k) hs p → FirstFrom s r i (i + suc k) hs p
+    later : is_pair s r (hop_at hs i) ≡ false → {p : ℕ} → FirstFrom s r (suc i) (suc i + k) hs p
+        → FirstFrom s r i (i + suc k) hs p
     later t {p} F = record {
       from = omega (arith, F.from);
       none_before = λ x a b. by_cases (ℕ_discrete x i)

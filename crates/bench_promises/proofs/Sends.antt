@@ -15,8 +15,10 @@ use Rattle.sets.proofs.Laws.{member_below, collect-below, size_below, size_posit
 use Rattle.forest.specs.Forest.{route, route_size}
 use Rattle.model.specs.declared.Hop.{Hop}
 use Rattle.model.specs.declared.Message.{Message}
-use Rattle.model.specs.Network.{Plan, group_of, primary_of, route_of, route_size_of, route_size_for, Ledger, forests_of, Network, network, no_hop}
-use Rattle.model.specs.Network.{ledger_of, messages_of, hops_of, log_of, is_pair, is_taken, bit, count_hops, pair_count, new_hop, made, pair_taken}
+use Rattle.model.specs.Network.{Plan, group_of, primary_of, route_of, route_size_of, route_size_for, Ledger, forests_of, Network, network}
+use Rattle.model.specs.Network.{no_hop}
+use Rattle.model.specs.Network.{ledger_of, messages_of, hops_of, log_of, is_pair, is_taken, bit, count_hops, pair_count, new_hop, made}
+use Rattle.model.specs.Network.{pair_taken}
 use Rattle.model.specs.Network.{taken_of}
 use Rattle.model.specs.Rules.{Refused, Sent, Outcome, outcome, refuse, refused, answer_of, left_of, route_total, send}
 use Rattle.model.specs.Claims.{Limits}

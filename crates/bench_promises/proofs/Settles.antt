@@ -14,7 +14,8 @@ use Rattle.sets.specs.Sets.{member}
 use Rattle.sets.proofs.Bools.{and_both, cond-true, cond-false}
 use Rattle.model.specs.declared.Hop.{Hop}
 use Rattle.model.specs.declared.Message.{Message}
-use Rattle.model.specs.Network.{Plan, group_of, route_of, Ledger, Network, network, no_hop, message_at, hop_at, ledger_of, messages_of, hops_of}
+use Rattle.model.specs.Network.{Plan, group_of, route_of, Ledger, Network, network, no_hop, message_at, hop_at, ledger_of, messages_of}
+use Rattle.model.specs.Network.{hops_of}
 use Rattle.model.specs.Network.{log_of, is_taken, set_state, count_hops, pair_taken}
 use Rattle.model.specs.Rules.{Outcome, outcome, children_on, forward, logged, take_hop, next_held, tally, settle}
 use Rattle.model.proofs.Sequences.{Numbered, Next}

@@ -140,7 +140,8 @@ module _ (P : Plan) (planned : Planned P) {past : List Answered} {b : Bench} {ho
       reached-log P planned reached u more part promise ∙ ap (λ (x : List Call). log_of u (network_of (run P x))) same-calls
       ∙ sym (handed-log u 6400 (network_of (run P cs)) (limits P planned cs) (omega arith))
 
-  pub list_rest : (more : List Hop) (r : RestReply) → RestPromise b (hops ++ more) r → rest_answer r ≡ rest 2000 (network_of (run P cs))
+  pub list_rest : (more : List Hop) (r : RestReply) → RestPromise b (hops ++ more) r → rest_answer r
+      ≡ rest 2000 (network_of (run P cs))
   unfolding after
   list_rest more r promise =
       promise.rule P planned _ reached.bench (hops-behind P planned reached more)

@@ -18,4 +18,5 @@ log_if_sent test Held W = W
 log_if_sent test (Taken n) W = W
 
 unfoldable pub send_logging : (source group word : ℕ) → Network → Outcome
-send_logging s g w W = let o = send s g w W in outcome (answer_of o) (log_if_sent (member (group_of (plan_in_use W) g)) (answer_of o) (left_of o))
+send_logging s g w W = let o = send s g w W in outcome (answer_of o) (log_if_sent (member (group_of (plan_in_use W) g)) (answer_of o)
+    (left_of o))

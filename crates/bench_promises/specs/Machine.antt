@@ -1,6 +1,7 @@
 -- What each function of the engine computes, for any contents. These definitions say how the code goes; what it is worth is said by
 -- specs/Promises.antt, and proofs/ leads from here to there.
-use Rattle.std.specs.Prelude.{ℕ, zero, suc, ◌-◌, ◌*◌, Bool, not, ◌&&◌, ◌||◌, cond, List, ltb, leb, eqb, length, take, drop, replicate}
+use Rattle.std.specs.Prelude.{ℕ, zero, suc, ◌-◌, ◌*◌, Bool, not, ◌&&◌, ◌||◌, cond, List, ltb, leb, eqb, length, take}
+use Rattle.std.specs.Prelude.{drop, replicate}
 use Rattle.sets.specs.Sets.{member, intersection, size}
 use Rattle.model.specs.declared.Hop.{Hop}
 use Rattle.model.specs.Network.{no_hop, hop_at, set_state, is_out}

@@ -2,7 +2,8 @@
 -- those by value. Definitions only. `b` is the bench that a call's arguments say, `left` the bench that it answers and leaves.
 -- The one premise: an unrefused `build` or `check` of these units and groups gave the forest (`Planned`), and bench, hops and book are
 -- those that a list of calls has left. A list may be longer: only the first 2,000 hops and 6,400 numbers are used, and all others stay.
-use Rattle.std.specs.Prelude.{◌≡◌, ◌⊎◌, ℕ, ◌+◌, ◌*◌, ◌≤◌, ◌<◌, List, [], ◌∷◌, ◌++◌, length, take, drop}
+use Rattle.std.specs.Prelude.{◌≡◌, ◌⊎◌, ℕ, ◌+◌, ◌*◌, ◌≤◌, ◌<◌, List, [], ◌∷◌, ◌++◌, length}
+use Rattle.std.specs.Prelude.{take, drop}
 use Rattle.std.specs.Borrow.{Bor}
 use Rattle.model.specs.declared.Hop.{Hop}
 use Rattle.model.specs.Network.{Plan, Network, fresh_on, plan_in_use}
@@ -41,7 +42,8 @@ fresh_network n c gs ps = fresh_on (record { units = n; count = c; groups = gs; 
 
 pub record FreshPromise (units count : ℕ) (groups parents : List ℕ) (hops : List Hop) (book : List ℕ)
     (r : FreshReply) (left : Bench) (hops-left : List Hop) (book-left : List ℕ) : Type 0 where
-  pub short : (length hops < 2000) ⊎ (length book < 6400) → (fresh_answer r ≡ 1 ∷ []) × (hops-left ≡ hops) × (book-left ≡ book)
+  pub short : (length hops < 2000) ⊎ (length book < 6400) → (fresh_answer r ≡ 1 ∷ []) × (hops-left ≡ hops) × (book-left
+      ≡ book)
   pub whole : 2000 ≤ length hops → 6400 ≤ length book → (fresh_answer r ≡ [])
       × (hops-left ≡ hop_records (fresh_network units count groups parents) ++ drop 2000 hops)
       × (book-left ≡ log_book (fresh_network units count groups parents) ++ drop 6400 book)

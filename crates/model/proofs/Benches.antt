@@ -98,7 +98,8 @@ pub record Benches : Type 0 where
 pub benches : Benches
 unfolding ones_in count_trailing_zeros member single union intersection including including_if size lowest collect on_route parent
     ancestors_within ancestors above above_every above_some primary route route_size group_of primary_of route_of route_size_of
-    no_plan plan_at forests_of fresh_on no_message ledger_of message_at hop_at log_of hops_of is_out is_held is_taken with_state set_state is_pair sum_of
+    no_plan plan_at forests_of fresh_on no_message ledger_of message_at hop_at log_of hops_of is_out is_held is_taken with_state set_state
+    is_pair sum_of
     bit count_hops pair_count new_hop made
     refuse refused answer_of route_total send push rising children_on forward logged take_hop lower lowest_untaken place_of
     is_held_at next_held tally settle hold arrive all_taken quiescent call recorded step run_from run network_of history_of

@@ -106,7 +106,8 @@ all-idle hs s r others own a b = by_cases (ℕ_discrete a s)
 unfoldable pub holds : ℕ → ℕ → Hop → Bool
 holds s r h = is_pair s r h && is_held h
 
-none-held : (t : Hop → Bool) (hs : List Hop) → count_hops t hs ≤ 0 → (j : ℕ) → j < length hs → t (hop_at hs j) ≡ true → ⊥
+none-held : (t : Hop → Bool) (hs : List Hop) → count_hops t hs ≤ 0 → (j : ℕ) → j < length hs → t (hop_at hs j) ≡ true
+    → ⊥
 unfolding count_hops sum_of hop_at bit
 none-held t [] z j b h = not-suc-le-zero b
 none-held t (x ∷ hs) z zero b h = absurd (omega (arith, z, ap bit h))

@@ -191,7 +191,8 @@ equal_idle s r hs e j N = clash (equal_taken s r hs e j N.within N.pair) (held-u
 -- ---- what changes the counts
 
 -- a state that the test does not tell from the old one
-pub count-unchanged : (t : Hop → Bool) (j k : ℕ) (hs : List Hop) → j < length hs → t (with_state k (hop_at hs j)) ≡ t (hop_at hs j)
+pub count-unchanged : (t : Hop → Bool) (j k : ℕ) (hs : List Hop) → j < length hs → t (with_state k (hop_at hs j))
+    ≡ t (hop_at hs j)
     → count_hops t (set_state j k hs) ≡ count_hops t hs
 count-unchanged t j k hs b e = omega (arith, count-state t j k hs b, ap bit e)
 
@@ -419,7 +420,8 @@ pub run_snoc : (P : Plan) (cs : List Call) (c : Call) → run P (cs ++ c ∷ [])
 unfolding run
 run_snoc P cs c = run-from_snoc cs c (ran (fresh_on P) [])
 
-pub network_snoc : (P : Plan) (cs : List Call) (c : Call) → network_of (run P (cs ++ c ∷ [])) ≡ left_of (call c (network_of (run P cs)))
+pub network_snoc : (P : Plan) (cs : List Call) (c : Call) → network_of (run P (cs ++ c ∷ []))
+    ≡ left_of (call c (network_of (run P cs)))
 network_snoc P cs c = ap network_of (run_snoc P cs c) ∙ step-network c (run P cs)
 
 pub history_snoc : (P : Plan) (cs : List Call) (c : Call)

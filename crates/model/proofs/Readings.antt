@@ -41,14 +41,16 @@ unfolding plan_now
 now_snoc P [] x = refl
 now_snoc P (y ∷ past) x = now_snoc (plan_after P y) past x
 
-pub sent_snoc : (P : Plan) (past : List Answered) (x : Answered) → sent P (past ++ x ∷ []) ≡ sent P past ++ sent_by (plan_now P past) x
+pub sent_snoc : (P : Plan) (past : List Answered) (x : Answered) → sent P (past ++ x ∷ []) ≡ sent P past
+    ++ sent_by (plan_now P past) x
 unfolding sent plan_now
 sent_snoc P [] x = append-nil (sent_by P x)
 sent_snoc P (y ∷ past) x =
     ap (λ (l : List SentMessage). sent_by P y ++ l) (sent_snoc (plan_after P y) past x)
     ∙ sym (append_assoc (sent_by P y) (sent (plan_after P y) past) (sent_by (plan_now (plan_after P y) past) x))
 
-pub total_snoc : (past : List Answered) (c : Call) (a : Answer) → taken_total (past ++ answered c a ∷ []) ≡ taken_total past + carried a
+pub total_snoc : (past : List Answered) (c : Call) (a : Answer) → taken_total (past ++ answered c a ∷ [])
+    ≡ taken_total past + carried a
 unfolding taken_total carried_by
 total_snoc past c a = sum_snoc carried_by past (answered c a)
 

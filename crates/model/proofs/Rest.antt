@@ -114,4 +114,5 @@ module _ (F : List Plan) (planted : Planted F) (T : List Message) {order : List 
 
     pub all_finished : (m : ℕ) → In m order → Finished S H m
     unfolding Finished
-    all_finished m i u on = route-taken m i (suc (depth_for S m u)) u (let z : depth_for S m u < suc (depth_for S m u) = omega arith in z) on
+    all_finished m i u on = route-taken m i (suc (depth_for S m u)) u (let z : depth_for S m u < suc (depth_for S m u) = omega arith in z)
+        on

@@ -193,7 +193,8 @@ module _ (P : Plan) where
   kept_from (c ∷ cs) r K = kept_from cs (step c r) (kept_step c r K)
 
   pub kept_run : Forest P → (cs : List Call) → Kept P (history_of (run P cs)) (network_of (run P cs))
-  unfolding run history_of network_of fresh_on forests_of Valid sent enumerate ledger_of messages_of taken_total count_hops sum_of hops_of Idle
+  unfolding run history_of network_of fresh_on forests_of Valid sent enumerate ledger_of messages_of taken_total count_hops sum_of hops_of
+      Idle
       plan_now route_total down_from plan_at no_plan
   kept_run forest cs = kept_from cs (ran (fresh_on P) []) (record {
     valid = record {
@@ -219,7 +220,8 @@ calls-from : (cs : List Call) (r : Run) → map call_of (history_of (run_from cs
 unfolding run_from
 calls-from [] r = sym (append-nil (map call_of (history_of r)))
 calls-from (c ∷ cs) r =
-    calls-from cs (step c r) ∙ ap (λ (l : List Call). l ++ cs) (step-calls c r) ∙ append_assoc (map call_of (history_of r)) (c ∷ []) cs
+    calls-from cs (step c r) ∙ ap (λ (l : List Call). l ++ cs) (step-calls c r) ∙ append_assoc (map call_of (history_of r)) (c ∷ [])
+    cs
 
 -- the calls recorded are those of the list
 pub run-calls : (P : Plan) (cs : List Call) → map call_of (history_of (run P cs)) ≡ cs

@@ -64,7 +64,8 @@ message-old {ms} b m l h =
     ap (λ (t : List Message). get_or t (m - 1) no_message) b.is
     ∙ get_or-append ms b.later _ (m - 1) (let z : m - 1 < length ms = omega arith in z)
 
-pub message-new : (ms : List Message) (x : Message) {T : List Message} → Begins (ms ++ x ∷ []) T → message_at T (suc (length ms)) ≡ x
+pub message-new : (ms : List Message) (x : Message) {T : List Message} → Begins (ms ++ x ∷ []) T → message_at T (suc (length ms))
+    ≡ x
 unfolding message_at
 message-new ms x {T} b =
     let e : suc (length ms) - 1 ≡ length ms = omega arith in

@@ -1,5 +1,6 @@
 -- Rules of the bench (document 01, "The bench, message by message"): send, arrive, rest. Definitions only.
-use Rattle.std.specs.Prelude.{ℕ, zero, suc, ◌+◌, Bool, true, false, not, ◌&&◌, ◌||◌, cond, List, [], ◌∷◌, ◌++◌, length, get_or, set, ltb, leb, eqb}
+use Rattle.std.specs.Prelude.{ℕ, zero, suc, ◌+◌, Bool, true, false, not, ◌&&◌, ◌||◌, cond, List, [], ◌∷◌, ◌++◌}
+use Rattle.std.specs.Prelude.{length, get_or, set, ltb, leb, eqb}
 use Rattle.sets.specs.Sets.{member}
 use Rattle.forest.specs.Forest.{parent}
 use Rattle.model.specs.declared.Hop.{Hop}

@@ -220,10 +220,12 @@ table =
     entry 4 (RouteOf drawn_c 0) (Route (unit_set (0 ∷ 2 ∷ 3 ∷ [])) 3 (unit_set (2 ∷ []))) ∷
     entry 5 (ForestOf bench_p5) (Refusal (11 ∷ 2 ∷ [])) ∷
     entry 6 (ForestOf bench_p6) (Refusal (10 ∷ [])) ∷
-    entry 7 (Calls bench_p7 (map call_of send_p7)) (Ran send_p7 (message 0 0 7 ∷ []) (out 0 0 1 1 ∷ []) (Log [] ∷ []) (Rest false)) ∷
+    entry 7 (Calls bench_p7 (map call_of send_p7)) (Ran send_p7 (message 0 0 7 ∷ []) (out 0 0 1 1 ∷ []) (Log [] ∷ []) (Rest false))
+    ∷
     entry 7 (Calls bench_p7 (map call_of calls_p7)) (Ran calls_p7 (message 0 0 7 ∷ []) (taken 0 0 1 1 ∷ [])
     (Log (1 ∷ []) ∷ []) (Rest true)) ∷
-    entry 8 (Calls drawn_c (map call_of calls_p8)) (Ran calls_p8 (message 3 0 500 ∷ message 1 2 600 ∷ []) hops_p8 logs_p8 (Rest true)) ∷
+    entry 8 (Calls drawn_c (map call_of calls_p8)) (Ran calls_p8 (message 3 0 500 ∷ message 1 2 600 ∷ []) hops_p8 logs_p8 (Rest true))
+    ∷
     entry 8 (File file_p8) (Prints prints_p8) ∷
     entry 9 (Calls built_c (map call_of calls_p9)) (Ran calls_p9 [] [] no_logs (Rest true)) ∷
     entry 9 (Calls drawn_c (map call_of calls_p9)) (Ran calls_p9 [] [] no_logs (Rest true)) ∷

@@ -15,7 +15,7 @@ use mathlib.Core.List.{List, [], ◌∷◌, map}
 use Prim.Native.Nat.{ℕ, zero, suc}
 use lib.ListN.{length, replicate, length-replicate}
 use seplogic.Ra.Ura.{Ura}
-use seplogic.Ra.TreeShare.{full_share}
+use base.Fraction.{full_share}
 use mir.Syntax.{erased, ty_array, Opd as Operand, repeat}
 use mir.Val.{Val}
 use base.Logic.{SProp, ent, sep, ex, guard, via}
@@ -52,7 +52,7 @@ map-replicate f (suc n) x = ap (λ l. f x ∷ l) (map-replicate f n x)
 
 module _ {R : RattleType} (B : ByValue R) where
   each-repeated : (n : ℕ) (x : R.Denot) → Is R x (B.word x ∷ [])
-      → shadow (each R.Denot R.own (replicate n x) (map B.word (replicate n x)))
+      → shadow (each R.Denot R.own_val (replicate n x) (map B.word (replicate n x)))
   each-repeated zero x is = tt
   each-repeated (suc n) x is = (is, each-repeated n x is)
 

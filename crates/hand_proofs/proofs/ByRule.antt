@@ -28,7 +28,7 @@ module _ {n : ℕ} where
   Data [] = Unit {0}
   Data (value R B ∷ ps) = R.Denot × Data ps
   Data (lent j ok R ∷ ps) = List R.Denot × Data ps
-  Data (shown j ok R ∷ ps) = List R.Denot × Data ps
+  Data (shown j ok R F ∷ ps) = List R.Denot × Data ps
   Data (relayed j ok R B ∷ ps) = List R.Denot × Data ps
 
   -- of what a caller hands over, of a callee's arguments, and that they are the same
@@ -36,7 +36,7 @@ module _ {n : ℕ} where
   handed_data [] h = tt
   handed_data (value R B ∷ ps) h = (h.0, handed_data ps h.1)
   handed_data (lent j ok R ∷ ps) h = (h.0.1, handed_data ps h.1)
-  handed_data (shown j ok R ∷ ps) h = (h.0.1, handed_data ps h.1)
+  handed_data (shown j ok R F ∷ ps) h = (h.0.1, handed_data ps h.1)
   handed_data (relayed j ok R B ∷ ps) h = (h.0.1, handed_data ps h.1)
 
   module _ (κs : Lfts n) where
@@ -44,22 +44,22 @@ module _ {n : ℕ} where
     data_of [] a = tt
     data_of (value R B ∷ ps) a = (a.0, data_of ps a.1)
     data_of (lent j ok R ∷ ps) a = (a.0.now, data_of ps a.1)
-    data_of (shown j ok R ∷ ps) a = (a.0.now, data_of ps a.1)
+    data_of (shown j ok R F ∷ ps) a = (a.0.now, data_of ps a.1)
     data_of (relayed j ok R B ∷ ps) a = (a.0.now, data_of ps a.1)
 
     pub same_data : (ps : List (Pass n)) (h : Handed ps) (δs : Names ps) → data_of ps (args κs ps h δs) ≡ handed_data ps h
     same_data [] h δs = refl
     same_data (value R B ∷ ps) h δs = λ i. (h.0, same_data ps h.1 δs i)
     same_data (lent j ok R ∷ ps) h δs = λ i. (h.0.1, same_data ps h.1 δs.1 i)
-    same_data (shown j ok R ∷ ps) h δs = λ i. (h.0.1, same_data ps h.1 δs.1 i)
-    same_data (relayed j ok R B ∷ ps) h δs = λ i. (h.0.1, same_data ps h.1 δs.1 i)
+    same_data (shown j ok R F ∷ ps) h δs = λ i. (h.0.1, same_data ps h.1 δs i)
+    same_data (relayed j ok R B ∷ ps) h δs = λ i. (h.0.1, same_data ps h.1 δs i)
 
     -- the last lists, of what a contract sees at exit, and that they are those that it binds
     abbrev pub last-lists : (ps : List (Pass n)) → Outs κs (slots ps) (all yes (slots ps)) → Ends ps
     last-lists [] end = tt
     last-lists (value R B ∷ ps) end = last-lists ps end.1
     last-lists (lent j ok R ∷ ps) end = (end.0.now, last-lists ps end.1)
-    last-lists (shown j ok R ∷ ps) end = last-lists ps end.1
+    last-lists (shown j ok R F ∷ ps) end = last-lists ps end.1
     last-lists (relayed j ok R B ∷ ps) end = last-lists ps end.1
 
     pub same_lists : (ps : List (Pass n)) (a : Denots (types_at (slots ps) κs)) (ws : Fins κs (slots ps) (all yes (slots ps)) a)
@@ -67,7 +67,7 @@ module _ {n : ℕ} where
     same_lists [] a ws = refl
     same_lists (value R B ∷ ps) a ws = same_lists ps a.1 ws.1
     same_lists (lent j ok R ∷ ps) a ws = λ i. (ws.0, same_lists ps a.1 ws.1 i)
-    same_lists (shown j ok R ∷ ps) a ws = same_lists ps a.1 ws.1
+    same_lists (shown j ok R F ∷ ps) a ws = same_lists ps a.1 ws.1
     same_lists (relayed j ok R B ∷ ps) a ws = same_lists ps a.1 ws.1
 
 -- ---- by a relation
@@ -140,14 +140,14 @@ abbrev pub no_lists : (ps : List (Pass 0)) → Ends ps
 no_lists [] = tt
 no_lists (value R B ∷ ps) = no_lists ps
 no_lists (lent j ok R ∷ ps) = absurd ok
-no_lists (shown j ok R ∷ ps) = absurd ok
+no_lists (shown j ok R F ∷ ps) = absurd ok
 no_lists (relayed j ok R B ∷ ps) = absurd ok
 
 pub no_others : (ps : List (Pass 0)) (es es' : Ends ps) → es ≡ es'
 no_others [] es es' = refl
 no_others (value R B ∷ ps) es es' = no_others ps es es'
 no_others (lent j ok R ∷ ps) es es' = absurd ok
-no_others (shown j ok R ∷ ps) es es' = absurd ok
+no_others (shown j ok R F ∷ ps) es es' = absurd ok
 no_others (relayed j ok R B ∷ ps) es es' = absurd ok
 
 module _ {M : Type 1} {𝓤 : Ura M} (𝓛 : Logic 𝓤) where

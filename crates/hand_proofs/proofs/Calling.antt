@@ -11,13 +11,12 @@
 use mathlib.Core.Path.{◌≡◌, refl, sym, ap, subst}
 use Prim.Native.Nat.{ℕ, zero, suc}
 use mathlib.Core.List.{List, [], ◌∷◌, ◌++◌}
-use lib.ListN.{length}
 use seplogic.Ra.Ura.{Ura}
-use seplogic.Ra.TreeShare.{full_share}
-use mir.Syntax.{Name, Place, Opd as Operand, Body, seq, call, named}
+use base.Fraction.{full_share}
+use mir.Syntax.{Callee as Key, Place, Opd as Operand, Body, seq, call, named}
 use mir.Val.{Val}
 use base.Logic.{SProp, ent, sep, wand, ex, emp, id⊢, via, comm∗, assoc∗, assoc', mono_l, mono_r, snd∗, emp∗, wand_i, apply∗}
-use base.Fml.{Lft, GName, Fml, ftrue, fsep, feq, flft, fdead}
+use base.Fml.{Lft, GName, Fml, ftrue, fsep, flft, fdead}
 use prog.Wp.{Env, Calls, Loops, eval_opds}
 use types.Logic.{Logic, sem}
 use sound.WpLaws.{FmC, eval_opds_fm}
@@ -31,7 +30,7 @@ use types.Tokens.{lft_new, lft_end}
 use denote.Exit.{yes}
 use denote.RattleType.{RattleType, Denots, Valss, flat, owns}
 use denote.Laws.{Is, shows}
-use denote.Slice.{MutSlice, ShrSlice, finally}
+use denote.Slice.{MutSlice, ShrSlice}
 use denote.Signature.{Slot, Signature, plain, mut_slice_of, shr_slice_of, types_at}
 use denote.Steps.{only, facts, heard, nothing}
 use denote.Triple.Statement.{Contract, Triple}
@@ -39,9 +38,9 @@ use denote.Triple.End.{all, Fins, lasts_of}
 use denote.Triple.Spec.{triple_of}
 use denote.Triple.Clauses.{Ended, Clauses, Lasts, at_exit, ensured, closing}
 use denote.Triple.Call.{calls_from, calls_from_last}
-use Rattle.hand_proofs.proofs.Values.{ByValue, copied}
-use Rattle.hand_proofs.proofs.Lending.{Loan, at_list, words, Holds, Views, Away, Seen, Relayed, lend, regain, show, regain-shown}
-use Rattle.hand_proofs.proofs.Lending.{relay, regain-relayed}
+use Rattle.hand_proofs.proofs.Values.{ByValue, Lendable}
+use Rattle.hand_proofs.proofs.Lending.{Loan, at_list, seen_at, words, Holds, Views, Away, Seen, Relayed, Left-at, lend, regain, show}
+use Rattle.hand_proofs.proofs.Lending.{regain-shown, relay, regain-relayed}
 
 -- ---- n lifetimes that are made for a call
 abbrev pub News : ℕ → Type 0
@@ -118,6 +117,15 @@ module _ {M : Type 1} {𝓤 : Ura M} (𝓛 : Logic 𝓤) where
       (sem 𝓛 (fsep (N z.0) (N' z.1)))) (x, y) $
       move ! (2 ∷ 0 ∷ []) $ fjoin ! $ frame ! $ move ! (1 ∷ 0 ∷ []) $ fjoin ! $ done !))
 
+  -- a slice lent as a `&[T]`, which has no name
+  lend-shared : (Q : SProp 𝓤) (Y : Type 0) (O N : Fml) (O' N' : Y → Fml) → ent 𝓤 Q (H.⇛ (sep 𝓤 (sem 𝓛 O) (sem 𝓛 N)))
+      → ent 𝓤 (sep 𝓤 Q (Out Y O' N')) (Out Y (λ y. fsep O (O' y)) (λ y. fsep N (N' y)))
+  lend-shared Q Y O N O' N' q =
+      qed 𝓛 (raw Q ∷ out Y O' N' ∷ []) ∵ updating ! $ use1 𝓛 (later (‵ O ⊛ ‵ N)) q $ await ! tt $ split ! $
+      move ! (2 ∷ []) $ await ! tt $ pick ! (λ y. split ! $
+      at_once ! $ witness ! (λ (z : Y). sep 𝓤 (sem 𝓛 (fsep O (O' z))) (sem 𝓛 (fsep N (N' z)))) y $
+      move ! (2 ∷ 0 ∷ []) $ fjoin ! $ frame ! $ move ! (1 ∷ 0 ∷ []) $ fjoin ! $ done !)
+
   -- the lifetimes are over (D); N was kept of the slice, and E is said of its last list
   back-slice : (D : SProp 𝓤) (κ : Lft) → ent 𝓤 D (sep 𝓤 (A.dead κ) D) → (P N E N' E' : Fml) (Q : SProp 𝓤)
       → ent 𝓤 (sep 𝓤 (A.dead κ) (sep 𝓤 (sem 𝓛 N) (sem 𝓛 E))) (H.⇛ (sem 𝓛 P))
@@ -139,7 +147,7 @@ module _ {M : Type 1} {𝓤 : Ura M} (𝓛 : Logic 𝓤) where
 pub data Pass (n : ℕ) : Type 2 where
   value : (R : RattleType) → ByValue R → Pass n
   lent : (j : ℕ) → Within n j → RattleType → Pass n
-  shown : (j : ℕ) → Within n j → RattleType → Pass n
+  shown : (j : ℕ) → Within n j → (R : RattleType) → Lendable R → Pass n
   relayed : (j : ℕ) → Within n j → (R : RattleType) → ByValue R → Pass n
 
 module _ {n : ℕ} where
@@ -147,7 +155,7 @@ module _ {n : ℕ} where
   slots [] = []
   slots (value R B ∷ ps) = plain (λ κs. R) ∷ slots ps
   slots (lent j ok R ∷ ps) = mut_slice_of (j ∷ []) ok (plain (λ κs. R)) ∷ slots ps
-  slots (shown j ok R ∷ ps) = shr_slice_of (j ∷ []) ok (plain (λ κs. R)) ∷ slots ps
+  slots (shown j ok R F ∷ ps) = shr_slice_of (j ∷ []) ok (plain (λ κs. R)) ∷ slots ps
   slots (relayed j ok R B ∷ ps) = shr_slice_of (j ∷ []) ok (plain (λ κs. R)) ∷ slots ps
 
   -- what the caller hands over: a value, or a slice that it holds at a list
@@ -155,7 +163,7 @@ module _ {n : ℕ} where
   Handed [] = Unit {0}
   Handed (value R B ∷ ps) = R.Denot × Handed ps
   Handed (lent j ok R ∷ ps) = (Loan × List R.Denot) × Handed ps
-  Handed (shown j ok R ∷ ps) = (Loan × List R.Denot) × Handed ps
+  Handed (shown j ok R F ∷ ps) = (Loan × List R.Denot) × Handed ps
   Handed (relayed j ok R B ∷ ps) = (Loan × List R.Denot) × Handed ps
 
   -- each value is one of its type
@@ -163,29 +171,29 @@ module _ {n : ℕ} where
   Fit [] h = Unit {0}
   Fit (value R B ∷ ps) h = Is R h.0 (B.word h.0 ∷ []) × Fit ps h.1
   Fit (lent j ok R ∷ ps) h = Fit ps h.1
-  Fit (shown j ok R ∷ ps) h = Fit ps h.1
+  Fit (shown j ok R F ∷ ps) h = Fit ps h.1
   Fit (relayed j ok R B ∷ ps) h = Fit ps h.1
 
-  -- the names under which the slices are lent, and the lists that the callee leaves
+  -- the names under which the slices lent as `&mut [T]` are lent, and the lists that the callee leaves
   abbrev pub Names : List (Pass n) → Type 0
   Names [] = Unit {0}
   Names (value R B ∷ ps) = Names ps
   Names (lent j ok R ∷ ps) = GName × Names ps
-  Names (shown j ok R ∷ ps) = GName × Names ps
-  Names (relayed j ok R B ∷ ps) = GName × Names ps
+  Names (shown j ok R F ∷ ps) = Names ps
+  Names (relayed j ok R B ∷ ps) = Names ps
 
   abbrev pub Ends : List (Pass n) → Type 0
   Ends [] = Unit {0}
   Ends (value R B ∷ ps) = Ends ps
   Ends (lent j ok R ∷ ps) = List R.Denot × Ends ps
-  Ends (shown j ok R ∷ ps) = Ends ps
+  Ends (shown j ok R F ∷ ps) = Ends ps
   Ends (relayed j ok R B ∷ ps) = Ends ps
 
   abbrev pub after : (ps : List (Pass n)) → Handed ps → Ends ps → Handed ps
   after [] h es = tt
   after (value R B ∷ ps) h es = (h.0, after ps h.1 es)
   after (lent j ok R ∷ ps) h es = ((h.0.0, es.0), after ps h.1 es.1)
-  after (shown j ok R ∷ ps) h es = (h.0, after ps h.1 es)
+  after (shown j ok R F ∷ ps) h es = (h.0, after ps h.1 es)
   after (relayed j ok R B ∷ ps) h es = (h.0, after ps h.1 es)
 
   -- the entries of the caller's context
@@ -193,7 +201,7 @@ module _ {n : ℕ} where
   held [] h = []
   held (value R B ∷ ps) h = held ps h.1
   held (lent j ok R ∷ ps) h = ‵ (Holds R h.0.0 h.0.1) ∷ held ps h.1
-  held (shown j ok R ∷ ps) h = ‵ (Holds R h.0.0 h.0.1) ∷ held ps h.1
+  held (shown j ok R F ∷ ps) h = ‵ (Holds R h.0.0 h.0.1) ∷ held ps h.1
   held (relayed j ok R B ∷ ps) h = ‵ (Views R h.0.0 h.0.1) ∷ held ps h.1
 
   -- how many slices are passed
@@ -201,7 +209,7 @@ module _ {n : ℕ} where
   slices [] = zero
   slices (value R B ∷ ps) = slices ps
   slices (lent j ok R ∷ ps) = suc (slices ps)
-  slices (shown j ok R ∷ ps) = suc (slices ps)
+  slices (shown j ok R F ∷ ps) = suc (slices ps)
   slices (relayed j ok R B ∷ ps) = suc (slices ps)
 
   -- the machine values passed, in a row
@@ -209,7 +217,7 @@ module _ {n : ℕ} where
   in_words [] h = []
   in_words (value R B ∷ ps) h = B.word h.0 ∷ in_words ps h.1
   in_words (lent j ok R ∷ ps) h = words R h.0.0 ++ in_words ps h.1
-  in_words (shown j ok R ∷ ps) h = words R h.0.0 ++ in_words ps h.1
+  in_words (shown j ok R F ∷ ps) h = words R h.0.0 ++ in_words ps h.1
   in_words (relayed j ok R B ∷ ps) h = words R h.0.0 ++ in_words ps h.1
 
   module _ (κs : Lfts n) where
@@ -217,21 +225,21 @@ module _ {n : ℕ} where
     args [] h δs = tt
     args (value R B ∷ ps) h δs = (h.0, args ps h.1 δs)
     args (lent j ok R ∷ ps) h δs = (at_list R h.0.0 δs.0 h.0.1, args ps h.1 δs.1)
-    args (shown j ok R ∷ ps) h δs = (at_list R h.0.0 δs.0 h.0.1, args ps h.1 δs.1)
-    args (relayed j ok R B ∷ ps) h δs = (at_list R h.0.0 δs.0 h.0.1, args ps h.1 δs.1)
+    args (shown j ok R F ∷ ps) h δs = (seen_at R h.0.0 h.0.1, args ps h.1 δs)
+    args (relayed j ok R B ∷ ps) h δs = (seen_at R h.0.0 h.0.1, args ps h.1 δs)
 
     abbrev pub machines : (ps : List (Pass n)) → Handed ps → Valss (types_at (slots ps) κs)
     machines [] h = tt
     machines (value R B ∷ ps) h = (B.word h.0 ∷ [], machines ps h.1)
     machines (lent j ok R ∷ ps) h = (words R h.0.0, machines ps h.1)
-    machines (shown j ok R ∷ ps) h = (words R h.0.0, machines ps h.1)
+    machines (shown j ok R F ∷ ps) h = (words R h.0.0, machines ps h.1)
     machines (relayed j ok R B ∷ ps) h = (words R h.0.0, machines ps h.1)
 
     pub in_words-is : (ps : List (Pass n)) (h : Handed ps) → flat (types_at (slots ps) κs) (machines ps h) ≡ in_words ps h
     in_words-is [] h = refl
     in_words-is (value R B ∷ ps) h = ap (λ (vs : List Val). B.word h.0 ∷ vs) (in_words-is ps h.1)
     in_words-is (lent j ok R ∷ ps) h = ap (λ (vs : List Val). words R h.0.0 ++ vs) (in_words-is ps h.1)
-    in_words-is (shown j ok R ∷ ps) h = ap (λ (vs : List Val). words R h.0.0 ++ vs) (in_words-is ps h.1)
+    in_words-is (shown j ok R F ∷ ps) h = ap (λ (vs : List Val). words R h.0.0 ++ vs) (in_words-is ps h.1)
     in_words-is (relayed j ok R B ∷ ps) h = ap (λ (vs : List Val). words R h.0.0 ++ vs) (in_words-is ps h.1)
 
     -- what the caller keeps meanwhile
@@ -239,15 +247,15 @@ module _ {n : ℕ} where
     kept_back [] h δs = ftrue
     kept_back (value R B ∷ ps) h δs = kept_back ps h.1 δs
     kept_back (lent j ok R ∷ ps) h δs = fsep (Away R h.0.0 (lft_at n j ok κs) δs.0 h.0.1) (kept_back ps h.1 δs.1)
-    kept_back (shown j ok R ∷ ps) h δs = fsep (Seen R h.0.0 (lft_at n j ok κs) h.0.1) (kept_back ps h.1 δs.1)
-    kept_back (relayed j ok R B ∷ ps) h δs = fsep (Relayed R h.0.0 (lft_at n j ok κs) h.0.1) (kept_back ps h.1 δs.1)
+    kept_back (shown j ok R F ∷ ps) h δs = fsep (Seen R h.0.0 (lft_at n j ok κs) h.0.1) (kept_back ps h.1 δs)
+    kept_back (relayed j ok R B ∷ ps) h δs = fsep (Relayed R h.0.0 (lft_at n j ok κs) h.0.1) (kept_back ps h.1 δs)
 
     -- of what a contract binds at exit, the lists
     abbrev pub ends : (ps : List (Pass n)) (a : Denots (types_at (slots ps) κs)) → Fins κs (slots ps) (all yes (slots ps)) a → Ends ps
     ends [] a ws = tt
     ends (value R B ∷ ps) a ws = ends ps a.1 ws.1
     ends (lent j ok R ∷ ps) a ws = (ws.0, ends ps a.1 ws.1)
-    ends (shown j ok R ∷ ps) a ws = ends ps a.1 ws.1
+    ends (shown j ok R F ∷ ps) a ws = ends ps a.1 ws.1
     ends (relayed j ok R B ∷ ps) a ws = ends ps a.1 ws.1
 
     -- what a contract binds at exit, and what it says of that
@@ -271,7 +279,7 @@ module _ {n : ℕ} where
           frame ! $ done !
       lend-all (value R B ∷ ps) h fit =
           via 𝓤 (Out 𝓛 (Names ps) (owned_by ps h.1) (kept_back ps h.1)) (lend-all ps h.1 fit.1)
-          (lend-value 𝓛 (Names ps) (R.own h.0 (B.word h.0 ∷ [])) (owned_by ps h.1) (kept_back ps h.1)
+          (lend-value 𝓛 (Names ps) (R.own_val h.0 (B.word h.0 ∷ [])) (owned_by ps h.1) (kept_back ps h.1)
           (B.makes 𝓛 h.0 (B.word h.0 ∷ []) fit.0))
       lend-all (lent j ok R ∷ ps) h fit = let κ = lft_at n j ok κs in let L = h.0.0 in let ys = h.0.1 in
           via 𝓤 (sep 𝓤 (sem 𝓛 (Holds R L ys)) (⋆ 𝓛 (held ps h.1)))
@@ -283,26 +291,26 @@ module _ {n : ℕ} where
           (owned_by ps h.1)
           (kept_back ps h.1)
           (lend R L 𝓛 (named j) κ ys)))
-      lend-all (shown j ok R ∷ ps) h fit = let κ = lft_at n j ok κs in let L = h.0.0 in let ys = h.0.1 in
+      lend-all (shown j ok R F ∷ ps) h fit = let κ = lft_at n j ok κs in let L = h.0.0 in let ys = h.0.1 in
           via 𝓤 (sep 𝓤 (sem 𝓛 (Holds R L ys)) (⋆ 𝓛 (held ps h.1)))
           (pop 𝓛 (‵ (Holds R L ys)) (held ps h.1))
           (via 𝓤 (sep 𝓤 (sem 𝓛 (Holds R L ys)) (Out 𝓛 (Names ps) (owned_by ps h.1) (kept_back ps h.1)))
           (mono_r 𝓤 (sem 𝓛 (Holds R L ys)) (lend-all ps h.1 fit))
-          (lend-slice 𝓛 (sem 𝓛 (Holds R L ys)) GName (Names ps)
-          (λ δ. (ShrSlice (named j) κ R).own_val (at_list R L δ ys) (words R L)) (λ δ. Seen R L κ ys)
+          (lend-shared 𝓛 (sem 𝓛 (Holds R L ys)) (Names ps)
+          ((ShrSlice (named j) κ R).own_val (seen_at R L ys) (words R L)) (Seen R L κ ys)
           (owned_by ps h.1)
           (kept_back ps h.1)
-          (show R L 𝓛 (named j) κ ys)))
+          (show R L 𝓛 (named j) κ ys F)))
       lend-all (relayed j ok R B ∷ ps) h fit = let κ = lft_at n j ok κs in let L = h.0.0 in let ys = h.0.1 in
           via 𝓤 (sep 𝓤 (sem 𝓛 (Views R L ys)) (⋆ 𝓛 (held ps h.1)))
           (pop 𝓛 (‵ (Views R L ys)) (held ps h.1))
           (via 𝓤 (sep 𝓤 (sem 𝓛 (Views R L ys)) (Out 𝓛 (Names ps) (owned_by ps h.1) (kept_back ps h.1)))
           (mono_r 𝓤 (sem 𝓛 (Views R L ys)) (lend-all ps h.1 fit))
-          (lend-slice 𝓛 (sem 𝓛 (Views R L ys)) GName (Names ps)
-          (λ δ. (ShrSlice (named j) κ R).own_val (at_list R L δ ys) (words R L)) (λ δ. Relayed R L κ ys)
+          (lend-shared 𝓛 (sem 𝓛 (Views R L ys)) (Names ps)
+          ((ShrSlice (named j) κ R).own_val (seen_at R L ys) (words R L)) (Relayed R L κ ys)
           (owned_by ps h.1)
           (kept_back ps h.1)
-          (relay R L 𝓛 (named j) κ ys (λ x. B.word x ∷ []) B.told (copied R B 𝓛))))
+          (relay R L 𝓛 (named j) κ ys B.shr_laws)))
 
       -- once the lifetimes are over, what was kept and what is said of the last lists give the entries back
       back-all : (ps : List (Pass n)) (h : Handed ps) (δs : Names ps) (ws : Bound ps h δs)
@@ -319,28 +327,28 @@ module _ {n : ℕ} where
           let Γ = held ps (after ps h.1 (ends ps (args ps h.1 δs.1) ws.1)) in
           via 𝓤 (H.⇛ (sep 𝓤 (sem 𝓛 (Holds R L zs)) (⋆ 𝓛 Γ)))
           (back-slice 𝓛 (deads 𝓛 n κs) κ (dead_at 𝓛 n j ok κs) (Holds R L zs) (Away R L κ δ ys)
-          (fsep (finally R δ zs) (feq ℕ (length zs) (length ys)))
+          (Left-at R L κ δ ys zs)
           (kept_back ps h.1 δs.1)
           (Said ps h.1 δs.1 ws.1) (⋆ 𝓛 Γ) (regain R L 𝓛 (named j) κ ys δ zs)
           (back-all ps h.1 δs.1 ws.1))
           (𝓛.laws.⇛_mono _ _ (push 𝓛 (‵ (Holds R L zs)) Γ))
-      back-all (shown j ok R ∷ ps) h δs ws = let κ = lft_at n j ok κs in let L = h.0.0 in let ys = h.0.1 in
-          let Γ = held ps (after ps h.1 (ends ps (args ps h.1 δs.1) ws.1)) in
+      back-all (shown j ok R F ∷ ps) h δs ws = let κ = lft_at n j ok κs in let L = h.0.0 in let ys = h.0.1 in
+          let Γ = held ps (after ps h.1 (ends ps (args ps h.1 δs) ws.1)) in
           via 𝓤 (H.⇛ (sep 𝓤 (sem 𝓛 (Holds R L ys)) (⋆ 𝓛 Γ)))
           (back-slice 𝓛 (deads 𝓛 n κs) κ (dead_at 𝓛 n j ok κs) (Holds R L ys) (Seen R L κ ys) ftrue
-          (kept_back ps h.1 δs.1) (Said ps h.1 δs.1 ws.1)
+          (kept_back ps h.1 δs) (Said ps h.1 δs ws.1)
           (⋆ 𝓛 Γ)
           (no_last 𝓛 κ (Holds R L ys) (Seen R L κ ys) (regain-shown R L 𝓛 (named j) κ ys))
-          (back-all ps h.1 δs.1 ws.1))
+          (back-all ps h.1 δs ws.1))
           (𝓛.laws.⇛_mono _ _ (push 𝓛 (‵ (Holds R L ys)) Γ))
       back-all (relayed j ok R B ∷ ps) h δs ws = let κ = lft_at n j ok κs in let L = h.0.0 in let ys = h.0.1 in
-          let Γ = held ps (after ps h.1 (ends ps (args ps h.1 δs.1) ws.1)) in
+          let Γ = held ps (after ps h.1 (ends ps (args ps h.1 δs) ws.1)) in
           via 𝓤 (H.⇛ (sep 𝓤 (sem 𝓛 (Views R L ys)) (⋆ 𝓛 Γ)))
           (back-slice 𝓛 (deads 𝓛 n κs) κ (dead_at 𝓛 n j ok κs) (Views R L ys) (Relayed R L κ ys) ftrue
-          (kept_back ps h.1 δs.1)
-          (Said ps h.1 δs.1 ws.1) (⋆ 𝓛 Γ)
+          (kept_back ps h.1 δs)
+          (Said ps h.1 δs ws.1) (⋆ 𝓛 Γ)
           (no_last 𝓛 κ (Views R L ys) (Relayed R L κ ys) (regain-relayed R L 𝓛 (named j) κ ys))
-          (back-all ps h.1 δs.1 ws.1))
+          (back-all ps h.1 δs ws.1))
           (𝓛.laws.⇛_mono _ _ (push 𝓛 (‵ (Views R L ys)) Γ))
 
 -- ---- a context and as many entries before it that say nothing, or as many less
@@ -501,7 +509,7 @@ module _ {M : Type 1} {𝓤 : Ura M} {𝓛 : Logic 𝓤} where
           let κs = at_lfts νs δs in let T = ended_of c.lifetimes c.passes c.result in let a = args κs c.passes h δs in
           let g = c.ghost_at κs h δs in
           let S = c.result in
-          use1 𝓛 (later (some (λ (r : S.Denot). (raw (live νs δs) ⊛ ‵ (S.own r (w ∷ []))) ⊛ raw
+          use1 𝓛 (later (some (λ (r : S.Denot). (raw (live νs δs) ⊛ ‵ (S.own_val r (w ∷ []))) ⊛ raw
           (ensured 𝓛 T c.clauses κs a g r))) ⊛ ‵ (stay νs δs)) (id⊢ 𝓤 _) $ split t $
           await t z $
           pick t (λ r.
@@ -543,7 +551,7 @@ module _ {M : Type 1} {𝓤 : Ura M} {𝓛 : Logic 𝓤} where
         use3 𝓛 (raw ((contract_related c).pre (bound c h νs δs))) (assoc' 𝓤 live-toks (sem 𝓛 (owned_by κs ps h δs)) R) $
         join t $ k νs δs)))
 
-  module _ (C : Calls 𝓤 H) (f : Name) where
+  module _ (C : Calls 𝓤 H) (f : Key) where
     -- the callee's triple, beside what the caller keeps
     meets : FmC 𝓤 H 𝓛.laws C → (c : RelationalCallee 𝓛) → Triple 𝓤 (C f) (contract_related c)
         → (h : Handed c.passes) (νs : News c.lifetimes) (δs : Names c.passes)
@@ -575,7 +583,7 @@ module _ {M : Type 1} {𝓤 : Ura M} {𝓛 : Logic 𝓤} where
         (λ i. (sym e.0 i, sym e.1 i)) k
 
   module _ {K : Type 0} {Γ : List (Item 𝓤)} {E : Env 𝓤 H} {C : Calls 𝓤 H} {Λ : Loops 𝓤 H}
-      {q : Post 𝓤 H} {f : Name} {xs : List Operand} {d : Place} where
+      {q : Post 𝓤 H} {f : Key} {xs : List Operand} {d : Place} where
     -- a call: what is handed over, that its values are of their types, what the callee asks, and that the slices' entries stand first
     -- (`refl`)
     pub calls-related : K → FmC 𝓤 H 𝓛.laws C → {rest : Body} (c : RelationalCallee 𝓛)

@@ -13,7 +13,7 @@ use Prim.Native.Nat.{ℕ, ◌≤◌}
 use native.Mathlib.Nat.{lt_of_le_of_lt, mul-le-mul_right}
 use lib.ListN.{length, take, drop, take-append-drop}
 use seplogic.Ra.Ura.{Ura}
-use seplogic.Ra.TreeShare.{full_share}
+use base.Fraction.{full_share}
 use mir.Syntax.{erased}
 use base.Logic.{SProp, ent, sep, ex, guard}
 use base.Fml.{GName, Fml, fsep, flent}

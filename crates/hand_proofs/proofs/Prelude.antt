@@ -10,7 +10,7 @@ pub use lib.ListN.{length, get_or, set, length-set, replicate}
 pub use lib.Seq.{set_out}
 pub use lib.WfN.{lt-wf_rel as Nat·lt-wfRel}
 pub use seplogic.Ra.Ura.{Ura}
-pub use seplogic.Ra.TreeShare.{full_share}
+pub use base.Fraction.{full_share}
 pub use mir.Syntax.{w8, w16, w64}
 pub use mir.Val.{WT, vunit, vbool, vint, vptr}
 pub use base.Logic.{SProp, emp}
@@ -21,9 +21,9 @@ unfoldable pub use prog.Wp.{after_turn}
 pub use ghost.Atoms.{Atoms}
 pub use sound.WpLaws.{fm_of}
 pub use contract.Monad.{Fun, fact_i}
-pub use contract.Running.{given_of}
 unfoldable pub use contract.Running.{tables_of}
-pub use types.Kit.{Given, Item, Sq, runs, at_ret, any_q, ‵, ◌$◌, !, move, drop, rewrite, check, done}
+pub use types.Logic.{Logic, sem}
+pub use types.Kit.{Item, Sq, runs, at_ret, any_q, ‵, ◌$◌, !, move, drop, rewrite, check, done}
 pub use types.Run.{look, init, store, look_raw, store_raw, forget, stop, hop, fld, from, addr, load, lit, unit_lit, of_opd, no_more, bin}
 pub use types.Run.{assigns_last, first, blocks, exec, again, loops, returns, returns_within}
 pub use types.Part.{whole, sub, look_in, store_in, agg}

@@ -22,14 +22,13 @@ use Prim.Native.Nat.{ℕ, zero, suc}
 use mathlib.Core.List.{List, [], ◌∷◌, ◌++◌}
 use lib.ListN.{length}
 use seplogic.Ra.Ura.{Ura}
-use mir.Syntax.{named, Fn}
+use mir.Syntax.{named, Fn, Callee as Key}
 use mir.Fields.{get_v}
-use mir.Val.{Val, vunit, vbool, vint, vfloat, vptr, vstruct, Vals, vnil, as_int}
+use mir.Val.{Val, vunit, vbool, vint, vfloat, vptr, vcode, vstruct, Vals, vnil, as_int}
 use base.Logic.{SProp, ent, sep, ex, emp, guard, id⊢, via, mono_r}
 use base.Fml.{Lft, Share, Fml, ftrue, fsep, flft}
 use prog.Model.{Model}
 use prog.Routine as routines
-use prog.Routine.{Name}
 use prog.Wp.{WpFn, Closed, Tables}
 use types.Logic.{Logic, sem}
 use sound.WpLaws.{WpFn-mono}
@@ -42,7 +41,8 @@ use types.Kit.{check, done}
 use denote.Exit.{Exit, Last, left, yes, unchanged}
 use denote.RattleType.{RattleType, Denots, Valss, flat, owns}
 use denote.Laws.{Is, Typed, shows}
-use denote.Ref.{MutBor}
+use denote.Bor.{Bor}
+use denote.MutBor.{MutBor}
 use denote.Slice.{MutSlice, ShrSlice, Room}
 use denote.Signature.{plain, types_at}
 use denote.Steps.{facts, peeks, heard, nothing}
@@ -71,23 +71,34 @@ parts_of (vbool t) = vnil
 parts_of (vint w n) = vnil
 parts_of (vfloat f x) = vnil
 parts_of (vptr b o) = vnil
+parts_of (vcode c) = vnil
 parts_of (vstruct vs) = vs
 
 abbrev count_of : List Val → ℕ
 count_of [] = zero
 count_of (v ∷ vs) = as_int zero (get_v (parts_of v) 1) (λ _ n. n)
 
--- where a slice that is passed at the lifetime j lies
+-- where a slice that is passed at the lifetime j lies: a `&mut [T]`, and a `&[T]`, which has no name
 abbrev loan-at : (n : ℕ) → Lfts n → Shares n → (j : ℕ) → Within n j → {X : Type 0} → MutBor (List X) → Loan
 loan-at n κs qs j ok x = record {
   mark = named j;
   during = lft_at n j ok κs;
   portion = share_at n j ok qs;
-  tag = x.name;
-  block = x.ptr.0;
-  byte = x.ptr.1;
-  count = length
-      x.now;
+  tag = x.ghost_name;
+  block = x.ref_ptr.0;
+  byte = x.ref_ptr.1;
+  count = length x.now;
+}
+
+abbrev view-at : (n : ℕ) → Lfts n → Shares n → (j : ℕ) → Within n j → {X : Type 0} → Bor (List X) → Loan
+view-at n κs qs j ok x = record {
+  mark = named j;
+  during = lft_at n j ok κs;
+  portion = share_at n j ok qs;
+  tag = zero;
+  block = x.ref_ptr.0;
+  byte = x.ref_ptr.1;
+  count = length x.now;
 }
 
 -- of plain data nothing is said at exit
@@ -103,20 +114,20 @@ module _ {M : Type 1} {𝓤 : Ura M} (𝓛 : Logic 𝓤) where
   enter-value : (S : RattleType) (x : S.Denot) (vs : List Val) (t : SProp 𝓤) (P : Fml) (φ ψ : Type 0) (Q : SProp 𝓤)
       → ent 𝓤 (sep 𝓤 t (sem 𝓛 P)) (guard 𝓤 φ Q)
       → (Is S x vs → φ → ψ)
-      → ent 𝓤 (sep 𝓤 t (sem 𝓛 (fsep (S.own x vs) P))) (guard 𝓤 ψ Q)
+      → ent 𝓤 (sep 𝓤 t (sem 𝓛 (fsep (S.own_val x vs) P))) (guard 𝓤 ψ Q)
   enter-value S x vs t P φ ψ Q rest both =
-      qed 𝓛 (raw t ∷ ‵ (fsep (S.own x vs) P) ∷ []) ∵ move ! (1 ∷ []) $ fsplit ! $ facts ! S (Is S) (shows 𝓛 S) x vs
+      qed 𝓛 (raw t ∷ ‵ (fsep (S.own_val x vs) P) ∷ []) ∵ move ! (1 ∷ []) $ fsplit ! $ facts ! S (Is S) (shows 𝓛 S) x vs
       (λ is. move ! (1 ∷ 0 ∷ []) $ use2 𝓛 (given φ (raw Q)) rest $ learn ! (λ p. check ! (both is p) $ done !))
 
   enter-slice : (S : RattleType) (x : S.Denot) (vs ws : List Val) → (Is S x vs → vs ≡ ws)
       → (κ : Lft) (q : Share) (t : SProp 𝓤) (P : Fml) (φ ψ : Type 0) (Q Q' : SProp 𝓤)
       → ent 𝓤 (sep 𝓤 t (sem 𝓛 P)) (guard 𝓤 φ Q) → (Is S x vs → φ → ψ)
-      → ent 𝓤 (sep 𝓤 (sem 𝓛 (fsep (S.own x ws) (flft κ q))) Q) Q'
-      → ent 𝓤 (sep 𝓤 (sep 𝓤 (A.lft κ q) t) (sem 𝓛 (fsep (S.own x vs) P))) (guard 𝓤 ψ Q')
+      → ent 𝓤 (sep 𝓤 (sem 𝓛 (fsep (S.own_val x ws) (flft κ q))) Q) Q'
+      → ent 𝓤 (sep 𝓤 (sep 𝓤 (A.lft κ q) t) (sem 𝓛 (fsep (S.own_val x vs) P))) (guard 𝓤 ψ Q')
   enter-slice S x vs ws told κ q t P φ ψ Q Q' rest both with_it =
-      qed 𝓛 ((‵ (flft κ q) ⊛ raw t) ∷ ‵ (fsep (S.own x vs) P) ∷ []) ∵ move ! (1 ∷ []) $ fsplit ! $
+      qed 𝓛 ((‵ (flft κ q) ⊛ raw t) ∷ ‵ (fsep (S.own_val x vs) P) ∷ []) ∵ move ! (1 ∷ []) $ fsplit ! $
       peeks ! S (Is S) (shows 𝓛 S) x vs
-      (λ is. rewrite ! 0 (λ (us : List Val). ‵ (S.own x us)) (told is) refl $
+      (λ is. rewrite ! 0 (λ (us : List Val). ‵ (S.own_val x us)) (told is) refl $
       move ! (2 ∷ []) $ split ! $ move ! (2 ∷ 0 ∷ []) $ fjoin ! $ move ! (1 ∷ 2 ∷ []) $ use2 𝓛 (given φ (raw Q)) rest $
       learn ! (λ p. move ! (1 ∷ 0 ∷ []) $ check ! (both is p) $ by ! with_it))
 
@@ -173,7 +184,7 @@ module _ {n : ℕ} where
   Own [] = Unit {0}
   Own (value R B ∷ ps) = Own ps
   Own (lent j ok R ∷ ps) = Own ps
-  Own (shown j ok R ∷ ps) = ⊥
+  Own (shown j ok R F ∷ ps) = ⊥
   Own (relayed j ok R B ∷ ps) = Own ps
 
   -- each slice's count fits, and is its list's length
@@ -181,7 +192,7 @@ module _ {n : ℕ} where
   Rooms [] h = Unit {0}
   Rooms (value R B ∷ ps) h = Rooms ps h.1
   Rooms (lent j ok R ∷ ps) h = (Room R h.0.0.count × (h.0.0.count ≡ length h.0.1)) × Rooms ps h.1
-  Rooms (shown j ok R ∷ ps) h = (Room R h.0.0.count × (h.0.0.count ≡ length h.0.1)) × Rooms ps h.1
+  Rooms (shown j ok R F ∷ ps) h = (Room R h.0.0.count × (h.0.0.count ≡ length h.0.1)) × Rooms ps h.1
   Rooms (relayed j ok R B ∷ ps) h = (Room R h.0.0.count × (h.0.0.count ≡ length h.0.1)) × Rooms ps h.1
 
   module _ (κs : Lfts n) (qs : Shares n) where
@@ -190,8 +201,8 @@ module _ {n : ℕ} where
     hold [] a = tt
     hold (value R B ∷ ps) a = (a.0, hold ps a.1)
     hold (lent j ok R ∷ ps) a = ((loan-at n κs qs j ok a.0, a.0.now), hold ps a.1)
-    hold (shown j ok R ∷ ps) a = ((loan-at n κs qs j ok a.0, a.0.now), hold ps a.1)
-    hold (relayed j ok R B ∷ ps) a = ((loan-at n κs qs j ok a.0, a.0.now), hold ps a.1)
+    hold (shown j ok R F ∷ ps) a = ((view-at n κs qs j ok a.0, a.0.now), hold ps a.1)
+    hold (relayed j ok R B ∷ ps) a = ((view-at n κs qs j ok a.0, a.0.now), hold ps a.1)
 
     module _ {M : Type 1} {𝓤 : Ura M} (𝓛 : Logic 𝓤) where
       -- a token for each slice. Where each slice has its own lifetime, in order, they are all the tokens, by `refl`
@@ -201,7 +212,7 @@ module _ {n : ℕ} where
       tokens [] = emp 𝓤
       tokens (value R B ∷ ps) = tokens ps
       tokens (lent j ok R ∷ ps) = sep 𝓤 (A.lft (lft_at n j ok κs) (share_at n j ok qs)) (tokens ps)
-      tokens (shown j ok R ∷ ps) = sep 𝓤 (A.lft (lft_at n j ok κs) (share_at n j ok qs)) (tokens ps)
+      tokens (shown j ok R F ∷ ps) = sep 𝓤 (A.lft (lft_at n j ok κs) (share_at n j ok qs)) (tokens ps)
       tokens (relayed j ok R B ∷ ps) = sep 𝓤 (A.lft (lft_at n j ok κs) (share_at n j ok qs)) (tokens ps)
 
       module _ where
@@ -230,9 +241,9 @@ module _ {n : ℕ} where
             (enter-all ps o a.1 vss.1)
             (λ is p. ((p.0.0, ((is.0.1, refl), p.0.1)), λ i. (is.0.0 i, p.1 i)))
             (push 𝓛 (‵ (Holds R (loan-at n κs qs j ok a.0) a.0.now)) (held ps (hold ps a.1)))
-        enter-all (shown j ok R ∷ ps) o a vss = absurd o
+        enter-all (shown j ok R F ∷ ps) o a vss = absurd o
         enter-all (relayed j ok R B ∷ ps) o a vss =
-            enter-slice 𝓛 (ShrSlice (named j) (lft_at n j ok κs) R) a.0 vss.0 (words R (loan-at n κs qs j ok a.0))
+            enter-slice 𝓛 (ShrSlice (named j) (lft_at n j ok κs) R) a.0 vss.0 (words R (view-at n κs qs j ok a.0))
             (λ is. is.0.0) (lft_at n j ok κs)
             (share_at n j ok qs) (tokens ps)
             (owns (types_at (slots ps) κs) a.1 vss.1)
@@ -240,7 +251,7 @@ module _ {n : ℕ} where
             (⋆ 𝓛 (held (relayed j ok R B ∷ ps) (hold (relayed j ok R B ∷ ps) a)))
             (enter-all ps o a.1 vss.1)
             (λ is p. ((p.0.0, ((is.0.1, refl), p.0.1)), λ i. (is.0.0 i, p.1 i)))
-            (push 𝓛 (‵ (Views R (loan-at n κs qs j ok a.0) a.0.now)) (held ps (hold ps a.1)))
+            (push 𝓛 (‵ (Views R (view-at n κs qs j ok a.0) a.0.now)) (held ps (hold ps a.1)))
 
         -- what a contract binds at exit and says of it, at the last lists es
         abbrev Bound : (ps : List (Pass n)) → Denots (types_at (slots ps) κs) → Type 0
@@ -279,11 +290,11 @@ module _ {n : ℕ} where
             (λ ws. id⊢ 𝓤 _) P (lft_at n j ok κs)
             (share_at n j ok qs)
             (gives_last 𝓛 R n j ok κs qs a.0 es.0)))
-        leave_all (shown j ok R ∷ ps) o a es = absurd o
+        leave_all (shown j ok R F ∷ ps) o a es = absurd o
         leave_all (relayed j ok R B ∷ ps) o a es =
-            let P = sem 𝓛 (Views R (loan-at n κs qs j ok a.0) a.0.now) in
+            let P = sem 𝓛 (Views R (view-at n κs qs j ok a.0) a.0.now) in
             via 𝓤 (sep 𝓤 P (⋆ 𝓛 (held ps (after ps (hold ps a.1) es))))
-            (pop 𝓛 (‵ (Views R (loan-at n κs qs j ok a.0) a.0.now))
+            (pop 𝓛 (‵ (Views R (view-at n κs qs j ok a.0) a.0.now))
             (held ps (after ps (hold ps a.1) es)))
             (via 𝓤 (sep 𝓤 P (Left 𝓛 (tokens ps) (Bound ps a.1) (Ends-are ps a.1 es) (Said ps a.1)))
             (mono_r 𝓤 P (leave_all ps o a.1 es))
@@ -291,7 +302,7 @@ module _ {n : ℕ} where
             (Ends-are (relayed j ok R B ∷ ps) a es) (Said ps a.1)
             (Said (relayed j ok R B ∷ ps) a)
             ftrue (λ ws. (tt, ws)) (λ ws e. e) (λ ws. id⊢ 𝓤 _) P (lft_at n j ok κs) (share_at n j ok qs)
-            (gives_token 𝓛 R (loan-at n κs qs j ok a.0) a.0.now)))
+            (gives_token 𝓛 R (view-at n κs qs j ok a.0) a.0.now)))
 
 -- ---- what a function is passed suits its parameters' locals
 module _ {n : ℕ} where
@@ -299,7 +310,7 @@ module _ {n : ℕ} where
   Suited [] h = Unit {0}
   Suited (value R B ∷ ps) h = Typed R.mir (B.word h.0 ∷ []) × Suited ps h.1
   Suited (lent j ok R ∷ ps) h = Typed (MutSlice (named j) h.0.0.during R).mir (words R h.0.0) × Suited ps h.1
-  Suited (shown j ok R ∷ ps) h = Typed (ShrSlice (named j) h.0.0.during R).mir (words R h.0.0) × Suited ps h.1
+  Suited (shown j ok R F ∷ ps) h = Typed (ShrSlice (named j) h.0.0.during R).mir (words R h.0.0) × Suited ps h.1
   Suited (relayed j ok R B ∷ ps) h = Typed (ShrSlice (named j) h.0.0.during R).mir (words R h.0.0) × Suited ps h.1
 
   pub suited : {M : Type 1} {𝓤 : Ura M} → (𝓛 : Logic 𝓤) → (ps : List (Pass n)) (h : Handed ps)
@@ -308,7 +319,7 @@ module _ {n : ℕ} where
   suited {𝓤 = 𝓤} 𝓛 (value R B ∷ ps) h fit rooms =
       ((B.lawful 𝓛).typed h.0 (B.word h.0 ∷ []) fit.0, suited 𝓛 ps h.1 fit.1 rooms)
   suited 𝓛 (lent j ok R ∷ ps) h fit rooms = (((tt, (tt, (record { fits = rooms.0.0.0 }, tt))), tt), suited 𝓛 ps h.1 fit rooms.1)
-  suited 𝓛 (shown j ok R ∷ ps) h fit rooms = (((tt, (tt, (record { fits = rooms.0.0.0 }, tt))), tt), suited 𝓛 ps h.1 fit rooms.1)
+  suited 𝓛 (shown j ok R F ∷ ps) h fit rooms = (((tt, (tt, (record { fits = rooms.0.0.0 }, tt))), tt), suited 𝓛 ps h.1 fit rooms.1)
   suited 𝓛 (relayed j ok R B ∷ ps) h fit rooms = (
     ((tt, (tt, (record { fits = rooms.0.0.0 }, tt))), tt),
     suited 𝓛 ps h.1 fit rooms.1,
@@ -465,10 +476,10 @@ module _ {M : Type 1} {𝓤 : Ura M} {𝓛 : Logic 𝓤} where
       (leave_all κs qs 𝓛 ps own a es) $ await ! tt $ split ! $ move ! (1 ∷ []) $ pick ! (λ ws. learn ! (λ e.
       -- [what says the last lists; the tokens]
       at_once ! $ witness ! (λ (x : c.result.Denot). sep 𝓤 (sep 𝓤 (toks 𝓛 n κs qs)
-      (sem 𝓛 (c.result.own x (w ∷ [])))) (ensured 𝓛 T c.clauses κs a y.1 x)) r $
+      (sem 𝓛 (c.result.own_val x (w ∷ [])))) (ensured 𝓛 T c.clauses κs a y.1 x)) r $
       move ! (1 ∷ []) $ use1 𝓛 (raw (toks 𝓛 n κs qs)) (subst (λ (P : SProp 𝓤). ent 𝓤 P (toks 𝓛 n κs qs))
       (all-tokens κs qs) (id⊢ 𝓤 (toks 𝓛 n κs qs))) $
-      use0 𝓛 (‵ (c.result.own r (w ∷ []))) (c.by_value.makes 𝓛 r (w ∷ []) s.0) $
+      use0 𝓛 (‵ (c.result.own_val r (w ∷ []))) (c.by_value.makes 𝓛 r (w ∷ []) s.0) $
       move ! (1 ∷ 0 ∷ []) $ join ! $ frame ! $
       witness ! (λ (zs : Lasts T κs a). sep 𝓤 (sem 𝓛 (lasts_of κs (slots ps) (all yes (slots ps)) a zs))
       ((c.clauses κs a).ensures y.1 r (at_exit T κs a zs))) ws $
@@ -559,7 +570,7 @@ module _ {M : Type 1} {𝓤 : Ura M} (𝓛 : Logic 𝓤) (𝓜 : Model 𝓤 𝓛
       → ((κs : Lfts c.lifetimes) (qs : Shares c.lifetimes)
       → toks 𝓛 c.lifetimes κs qs ≡ tokens κs qs 𝓛 c.passes)
       → Asked-related c → Suffices-related c
-      → (k : Name) (f : Fn) → Closed 𝓤 H (tables 𝓤 H 𝓜 𝓡 env).C (tables 𝓤 H 𝓜 𝓡 env).Λ k f
+      → (k : Key) (f : Fn) → Closed 𝓤 H (tables 𝓤 H 𝓜 𝓡 env).C (tables 𝓤 H 𝓜 𝓡 env).Λ k f
       → ((h : Handed c.passes) → Fit c.passes h → Rooms c.passes h → c.asks h → Goes-related c own-tables f h)
       → Triple 𝓤 ((tables 𝓤 H 𝓜 𝓡 env).C k) (contract_due c)
   unfolding tables_of
@@ -570,7 +581,7 @@ module _ {M : Type 1} {𝓤 : Ura M} (𝓛 : Logic 𝓤) (𝓜 : Model 𝓤 𝓛
   pub proved_duty : (c : Duty 𝓛) → Own c.passes → ((κs : Lfts c.lifetimes) (qs : Shares c.lifetimes)
       → toks 𝓛 c.lifetimes κs qs ≡ tokens κs qs 𝓛 c.passes)
       → Asked c → Suffices c
-      → (k : Name) (f : Fn) → Closed 𝓤 H (tables 𝓤 H 𝓜 𝓡 env).C (tables 𝓤 H 𝓜 𝓡 env).Λ k f
+      → (k : Key) (f : Fn) → Closed 𝓤 H (tables 𝓤 H 𝓜 𝓡 env).C (tables 𝓤 H 𝓜 𝓡 env).Λ k f
       → ((h : Handed c.passes) → Fit c.passes h → Rooms c.passes h → c.asks h → Goes c own-tables f h)
       → Triple 𝓤 ((tables 𝓤 H 𝓜 𝓡 env).C k) (contract-of c)
   proved_duty c own all-tokens reads ends-well k f closed walk =
@@ -581,7 +592,7 @@ module _ {M : Type 1} {𝓤 : Ura M} (𝓛 : Logic 𝓤) (𝓜 : Model 𝓤 𝓛
       → ((κs : Lfts c.lifetimes) (qs : Shares c.lifetimes) → toks 𝓛 c.lifetimes κs qs
       ≡ tokens κs qs 𝓛 c.passes)
       → Asked-related (duty-related c) → Meets-related c
-      → (k : Name) (f : Fn) → Closed 𝓤 H (tables 𝓤 H 𝓜 𝓡 env).C (tables 𝓤 H 𝓜 𝓡 env).Λ k f
+      → (k : Key) (f : Fn) → Closed 𝓤 H (tables 𝓤 H 𝓜 𝓡 env).C (tables 𝓤 H 𝓜 𝓡 env).Λ k f
       → ((h : Handed c.passes) → Fit c.passes h → Rooms c.passes h → c.asks h
       → Goes-related (duty-related c) own-tables f h)
       → Triple 𝓤 ((tables 𝓤 H 𝓜 𝓡 env).C k) (contract_related c)
@@ -591,7 +602,7 @@ module _ {M : Type 1} {𝓤 : Ura M} (𝓛 : Logic 𝓤) (𝓜 : Model 𝓤 𝓛
   pub proved_own : (c : Callee 𝓛) → Own c.passes
       → ((κs : Lfts c.lifetimes) (qs : Shares c.lifetimes) → toks 𝓛 c.lifetimes κs qs
       ≡ tokens κs qs 𝓛 c.passes) → Asked (duty c) → Meets-end c
-      → (k : Name) (f : Fn) → Closed 𝓤 H (tables 𝓤 H 𝓜 𝓡 env).C (tables 𝓤 H 𝓜 𝓡 env).Λ k f
+      → (k : Key) (f : Fn) → Closed 𝓤 H (tables 𝓤 H 𝓜 𝓡 env).C (tables 𝓤 H 𝓜 𝓡 env).Λ k f
       → ((h : Handed c.passes) → Fit c.passes h → Rooms c.passes h → c.asks h → Goes (duty c) own-tables f h)
       → Triple 𝓤 ((tables 𝓤 H 𝓜 𝓡 env).C k) (contract_of c)
   proved_own c own all-tokens reads ends-well = proved_duty (duty c) own all-tokens reads

@@ -12,7 +12,7 @@ use mathlib.Core.Path.{refl}
 use Prim.Native.Nat.{ℕ}
 use mathlib.Core.List.{List, [], ◌∷◌, ◌++◌}
 use seplogic.Ra.Ura.{Ura}
-use seplogic.Ra.TreeShare.{full_share}
+use base.Fraction.{full_share}
 use mir.Syntax.{Ty, Local, local, Fn}
 use mir.Val.{Val}
 use base.Logic.{SProp, ent, sep, emp, id⊢, via, fst∗, comm∗, assoc∗, assoc', mono_l, mono_r}
@@ -149,7 +149,7 @@ module _ {M : Type 1} {𝓤 : Ura M} (𝓛 : Logic 𝓤) where
 module _ {M : Type 1} {𝓤 : Ura M} {𝓛 : Logic 𝓤} {K : Type 0} where
   open 𝓛 use {H}
 
-  unpack : K → {Γ : List (Item 𝓤)} {G : Goal 𝓤 H} (L : List Local) (bs : Blocks L) (vs : List Holding)
+  unpack : K → (L : List Local) {Γ : List (Item 𝓤)} {G : Goal 𝓤 H} (bs : Blocks L) (vs : List Holding)
       → Step K 𝓛 (stack L bs vs Γ) G (raw (cells 𝓛 L bs vs) ∷ Γ) G
   unpack t [] bs vs = drop t
   unpack t (local τ h ∷ L) bs [] = drop t
@@ -157,7 +157,7 @@ module _ {M : Type 1} {𝓤 : Ura M} {𝓛 : Logic 𝓤} {K : Type 0} where
       use1 𝓛 ((‵ (cell τ bs.0 v) ⊛ ‵ (fdies τ bs.0)) ⊛ raw (cells 𝓛 L bs.1 vs)) (id⊢ 𝓤 _) $ split t $
       split t $ move t (2 ∷ []) $ unpack t L bs.1 vs $ s)
 
-  stores : K → {Γ : List (Item 𝓤)} {G : Goal 𝓤 H} (L : List Local) (bs : Blocks L) (us : List Val) → Suit L us
+  stores : K → (L : List Local) {Γ : List (Item 𝓤)} {G : Goal 𝓤 H} (bs : Blocks L) (us : List Val) → Suit L us
       → Step K 𝓛 (raw (cells 𝓛 L bs (passed L us)) ∷ Γ) G (raw (cells 𝓛 L bs (passed L [])) ∷ Γ)
       (passes (env_at L bs) us G)
   stores t L bs [] n = pass0 t
@@ -179,7 +179,7 @@ module _ {M : Type 1} {𝓤 : Ura M} {𝓛 : Logic 𝓤} {K : Type 0} where
       stores t L bs.1 us n $ move t (1 ∷ 0 ∷ []) $ use2 𝓛 (raw (cells 𝓛 (local τ h ∷ L) bs (empty ∷ passed L us)))
       (id⊢ 𝓤 _) $ s)
 
-  allocates : K → {Γ : List (Item 𝓤)} (L : List Local) {Kt : Env 𝓤 H → Goal 𝓤 H} →
+  allocates : K → (L : List Local) {Γ : List (Item 𝓤)} {Kt : Env 𝓤 H → Goal 𝓤 H} →
       ((bs : Blocks L) → Seq K 𝓛 (raw (cells 𝓛 L bs (passed L [])) ∷ Γ) (Kt (env_at L bs)))
       → Seq K 𝓛 Γ (allocs L Kt)
   allocates t [] k = alloc0 t $ use0 𝓛 (raw (emp 𝓤)) (id⊢ 𝓤 (emp 𝓤)) $ k tt

@@ -1,6 +1,6 @@
 -- What the two walks of the pair counts share: what the struct and its arrays say of their machine values. Assumes nothing.
 -- As the struct's field the arrays are spelled `map (map (map id)) grids`; this is `grids`.
-use mathlib.Core.Path.{◌≡◌, refl, sym, subst}
+use mathlib.Core.Path.{◌≡◌, refl, subst}
 use mathlib.Core.List.{List, [], ◌∷◌, map}
 use Prim.Native.Nat.{ℕ}
 use seplogic.Ra.Ura.{Ura}

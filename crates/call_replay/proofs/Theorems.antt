@@ -15,7 +15,7 @@ use Rattle.layout.specs.Tables.{tabulate}
 use Rattle.layout.proofs.Tables.{length-tabulate, get_d_tabulate}
 use Rattle.forest.specs.Calls.{refuse, groups_refusal, drawing_refusal, check_refusal}
 use Rattle.model.specs.declared.Hop.{Hop}
-use Rattle.model.specs.Network.{Plan, Network, fresh_on, no_hop, ledger_of, plan_in_use, hops_of, log_of}
+use Rattle.model.specs.Network.{Plan, Network, fresh_on, no_hop, plan_in_use, hops_of, log_of}
 use Rattle.model.specs.Rules.{Answer, Refused, Sent, Repeat, Held, Taken, Outcome, outcome, answer_of, left_of, all_taken, quiescent}
 use Rattle.model.specs.Calls.{Call, Send as SendCall, Arrive as ArriveCall, call, Answered, answered, Run, ran as ranTo, recorded, step}
 use Rattle.model.specs.Calls.{run_from as runCallsFrom, run as runCalls, network_of, history_of, log, rest as rest_of}

@@ -2,7 +2,6 @@
 // `set_state`, `append` and `clear`. Every function is total: a place past the list reads as zeros, and nothing is stored there.
 #![tactic(auto)]
 
-
 mod forwarding;
 
 ghost use Rattle.std.specs.Prelude.{◌≡◌, ◌-◌, set};

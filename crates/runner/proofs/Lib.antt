@@ -1,5 +1,6 @@
 pub mod Plans
 pub mod Refusals
+pub mod Noting
 pub mod RunResults
 pub mod Lines
 pub mod Lengths

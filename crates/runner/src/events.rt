@@ -115,6 +115,7 @@ pub fn totals_of(p: Progress) -> Totals
 }
 
 // Why a send was turned away: document 01's number, or 0.
+#[tactic(auto, unfolding(crate::specs::Steps::refusal_of, bench_promises::specs::Replies::send_answer))]
 fn send_refusal(reply: SendReply) -> u8
     ensures { result ≡ refusal_of (send_answer reply) }
 {
@@ -129,6 +130,7 @@ fn send_refusal(reply: SendReply) -> u8
 }
 
 // Why an arrival was turned away: document 01's number, or 0.
+#[tactic(auto, unfolding(crate::specs::Steps::refusal_of, bench_promises::specs::Replies::arrive_answer))]
 fn arrive_refusal(reply: ArriveReply) -> u8
     ensures { result ≡ refusal_of (arrive_answer reply) }
 {
@@ -142,6 +144,7 @@ fn arrive_refusal(reply: ArriveReply) -> u8
 }
 
 // The number carried by a taken answer; held, repeat and refusal carry none.
+#[tactic(auto, unfolding(model::specs::Demand3::carried, bench_promises::specs::Replies::arrive_answer))]
 fn carried_by(reply: ArriveReply) -> u16
     ensures { result ≡ carried (arrive_answer reply) }
 {
@@ -218,6 +221,7 @@ fn run_event(
 }
 
 // Prints the line of the last event if it was turned away, and goes on to the next.
+#[tactic(auto, using(crate::proofs::Noting::printing), unfolding(crate::specs::Steps::advanced))]
 fn noted(p: Progress, out: &mut [u8]) -> Progress
     ensures { Noted p out.old result out.new }
 {

@@ -9,6 +9,7 @@ use benchfile::{Content, ReadReply};
 use forest::Verdict;
 
 // Document 01's number of a refusal; 0 where the file was read.
+#[tactic(auto, unfolding(crate::specs::Steps::number_of, benchfile::specs::Calls::read_answer))]
 pub fn reply_number(reply: ReadReply) -> u16
     ensures { result ≡ number_of (read_answer reply) }
 {
@@ -27,6 +28,7 @@ pub fn reply_number(reply: ReadReply) -> u16
 }
 
 // The line of a refusal, or of `parents=`.
+#[tactic(auto, unfolding(crate::specs::Steps::line_of, benchfile::specs::Calls::read_answer))]
 fn line_of(reply: ReadReply) -> usize
     ensures { result ≡ line_of (read_answer reply) }
 {
@@ -52,6 +54,7 @@ pub fn reply_line(reply: ReadReply) -> u16
 }
 
 // How many numbers the events have.
+#[tactic(auto, unfolding(crate::specs::Steps::count_of, benchfile::specs::Calls::read_answer))]
 pub fn reply_count(reply: ReadReply) -> usize
     ensures { result ≡ count_of (read_answer reply) }
 {
@@ -62,6 +65,7 @@ pub fn reply_count(reply: ReadReply) -> usize
 }
 
 // The forest of a file: built, or checked as it is drawn.
+#[tactic(auto, unfolding(crate::specs::Printed::forest_refusal, crate::specs::Printed::forest_parents))]
 pub fn forest_of(content: Content) -> forest::Answer
     ensures { (refusal result.verdict ≡ forest_refusal content) × (result.parents ≡ forest_parents content) }
 {
@@ -79,6 +83,7 @@ pub fn forest_of(content: Content) -> forest::Answer
 }
 
 // Document 01's number of a verdict; 0 where the forest is accepted.
+#[tactic(auto, unfolding(forest::specs::Calls::refusal))]
 pub fn verdict_number(verdict: Verdict) -> u16
     ensures { result ≡ get_or (refusal verdict) 0 0 }
 {

@@ -53,6 +53,7 @@ fn put_logs(tables: &[u32], gauges: &[u16], book: &[u16], out: &mut [u8], at: us
 }
 
 // Does the reply say rest?
+#[tactic(auto, unfolding(crate::specs::Steps::says_rest, bench_promises::specs::Replies::rest_answer))]
 fn is_rest(reply: RestReply) -> bool
     ensures { result ≡ says_rest (rest_answer reply) }
 {

@@ -206,7 +206,10 @@ module _ (units count : ℕ) (fs qs : List ℕ) (k : Lists) where
           (lists (sets k.tables 0 X.tables) (sets k.messages 0 X.messages) (stored_pairs k.pairs X.pairs)
           (sets k.gauges 0 X.gauges) hs bk)
       unfolding unless_refused fresh_in bench_of fresh_on ledger_of
-      open_made = record { answers = answered; leaves = made ∙ sym (ap (λ (l : List ℕ). unless_refused l (fresh_in P k) k) no_refusal) }
+      open_made = record {
+        answers = answered;
+        leaves = made ∙ sym (ap (λ (l : List ℕ). unless_refused l (fresh_in P k) k) no_refusal);
+      }
         where
           put : (n : ℕ) (f : Bench → List ℕ) (l : List ℕ) → length (f (bench_of (fresh_on P))) ≡ n → n ≤ length l
               → sets l 0 (f X) ≡ f (bench_of (fresh_on P)) ++ drop n l

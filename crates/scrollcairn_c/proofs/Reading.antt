@@ -1,6 +1,6 @@
 -- What `read` says tells whether a file was good, and with it what is stored. Assumes nothing.
 use mathlib.Core.Path.{◌≡◌, refl, sym, ap, ◌∙◌}
-use mathlib.Core.List.{List, [], ◌∷◌}
+use mathlib.Core.List.{List}
 use Prim.Native.Nat.{ℕ}
 use native.Mathlib.Nat.{suc-ne-zero, lt_irrefl}
 use native.Mathlib.Omega.{arith}

@@ -11,7 +11,7 @@ use Rattle.sets.proofs.Bools.{or_none}
 use Rattle.layout.proofs.Tables.{length-tabulate}
 use Rattle.forest_tables.specs.Computed.{tables_of, columns_of}
 use Rattle.model.specs.declared.Message.{Message}
-use Rattle.model.specs.Network.{Network, ledger_of, plan_in_use}
+use Rattle.model.specs.Network.{Network, plan_in_use}
 use Rattle.bench_promises.specs.declared.Totals.{Totals}
 use Rattle.bench_promises.specs.State.{Bench, bench_of, message_list, message_column}
 use Rattle.scrollcairn_c.specs.Live.{Lists, bench_in, send_short, arrive_short, open_short, log_short}

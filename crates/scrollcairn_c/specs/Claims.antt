@@ -13,7 +13,7 @@ use Rattle.bench_engine.specs.declared.Part.{Part}
 use Rattle.c_answers.specs.declared.replies.Reply.{Reply}
 use Rattle.c_answers.specs.Replies.{reply_of}
 use Rattle.call_replay.specs.Claims.{answer_in}
-use Rattle.scrollcairn_c.specs.Live.{Lists, lists, bench_in, open_plan, OpenExported, SendExported, ArriveExported}
+use Rattle.scrollcairn_c.specs.Live.{Lists, bench_in, open_plan, OpenExported, SendExported, ArriveExported}
 use Rattle.scrollcairn_c.specs.Live.{LogExported, RestExported}
 use Rattle.scrollcairn_c.specs.declared.steps.Step.{Step}
 

@@ -266,6 +266,10 @@ below_all n h = same-members 32 (below 32) (below n) (below-below 32) (below-bel
     (λ u b. member-below-set 32 u ∙ simp (lt-ltb u 32 b) (sym (lt-ltb u n (le_trans b h))) ∙ sym
     (member-below-set n u ∙ ap (λ (x : Bool). x && ltb u n) (lt-ltb u 32 b)))
 
+-- from 32 on they are all that a set can hold
+pub below_full : (n : ℕ) → 32 ≤ n → 4294967295 ≡ below n
+below_full n h = below-is 32 (lit≤ tt) ∙ below_all n h
+
 -- ---- how many members
 
 -- a digit as a number

@@ -63,6 +63,7 @@ pub fn excluding(s: u32, u: usize) -> u32
 }
 
 // s with u where the test says so.
+#[tactic(auto, unfolding(crate::specs::Sets::including_if))]
 pub fn including_if(s: u32, u: usize, test: bool) -> u32
     ensures { result ≡ including_if s u test }
 {
@@ -73,6 +74,7 @@ pub fn including_if(s: u32, u: usize, test: bool) -> u32
 }
 
 // The numbers below n, as far as a set holds them.
+#[tactic(auto, using(crate::proofs::Laws::below_full))]
 pub fn below(n: usize) -> u32
     ensures { result ≡ belowOf n }
 {

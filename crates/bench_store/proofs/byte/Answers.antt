@@ -1,5 +1,4 @@
 -- The number is kept where it is below 256, by the test's lemma in each branch.
-use borrow.Author.Rules.{rules}
 use borrow.Author.Tests.{lt-ltb, le-ltb}
 use Rattle.bench_store.specs.Values.{byte}
 use Rattle.bench_store.proofs.byte.Goals as goal

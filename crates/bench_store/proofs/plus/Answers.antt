@@ -1,5 +1,4 @@
 -- The sum fits 32 bits, and is capped.
-use borrow.Author.Rules.{rules}
 use Rattle.bench_store.specs.Values.{plus}
 use Rattle.bench_store.proofs.plus.Goals as goal
 

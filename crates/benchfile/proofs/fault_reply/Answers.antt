@@ -11,39 +11,28 @@ named line e = ap (λ (x : ℕ). TurnedAway (x ∷ line ∷ [])) (sym e)
 
 pub returns-in-4 : goal.returns-in-4
 unfolding read_answer
-returns-in-4 c = λ _ _. named _ c.in-4.keys1
+returns-in-4 c = λ _ _. named _ c.in-4.is
 
 pub returns-in-5 : goal.returns-in-5
 unfolding read_answer
-returns-in-5 c = λ _ _. named _ c.in-4.keys2
+returns-in-5 c = λ _ _. named _ c.in-5.is
 
 pub returns-in-6 : goal.returns-in-6
 unfolding read_answer
-returns-in-6 c = λ _ _. named _ c.in-4.keys3
+returns-in-6 c = λ _ _. named _ c.in-6.is
 
 pub returns-in-7 : goal.returns-in-7
 unfolding read_answer
-returns-in-7 c = λ _ _. named _ c.in-4.keys4
+returns-in-7 c = λ _ _. named _ c.in-7.is
 
 pub returns-in-8 : goal.returns-in-8
 unfolding read_answer
-returns-in-8 c = λ _ _. named _ c.in-4.keys5
+returns-in-8 c = λ _ _. named _ c.in-8.is
 
 pub returns-in-9 : goal.returns-in-9
 unfolding read_answer
-returns-in-9 c = λ _ _. named _ c.in-4.keys6
+returns-in-9 c = λ _ _. named _ c.in-9.is
 
 pub returns-in_default : goal.returns-in_default
 unfolding read_answer
-returns-in_default c = λ low high.
-    let r = c.in-4.rest in named _ (omega (
-      arith,
-      low,
-      high,
-      r.1,
-      r.0.1,
-      r.0.0.1,
-      r.0.0.0.1,
-      r.0.0.0.0.1,
-      r.0.0.0.0.0.1,
-    ))
+returns-in_default c = λ low high. named _ (omega arith)

@@ -2,7 +2,7 @@
 use mathlib.Core.Path.{◌≡◌, sym, ap, ◌∙◌}
 use mathlib.Core.List.{List, ◌++◌}
 use Prim.Native.Nat.{ℕ, ◌≤◌}
-use borrow.Author.Rules.{rules}
+use native.Mathlib.Omega.{arith}
 use borrow.Author.Tests.{lt-ltb, le-ltb}
 use lib.ListN.{length, drop}
 use lib.Seq.{length-take-le}
@@ -26,7 +26,7 @@ slice_bounds-put_file-end c =
 
 pub slice_bounds-put_file-end-3 : goal.slice_bounds-put_file-end-3
 slice_bounds-put_file-end-3 c =
-    sym (length-take-le 32768 c.args.out.now c.if-out-lt32768.false)
+    sym (length-take-le 32768 c.args.out.now (omega arith))
 
 -- where both lists are long enough
 wrote : (events out text : List ℕ) → 9000 ≤ length events → 32768 ≤ length out
@@ -41,6 +41,6 @@ returns c =
     let call = c in
     let found = call in
     let a = found.args in
-    let rule = wrote a.list.now a.out.now (written a.content a.list.now) found.if-list-lt9000.false found.if-out-lt32768.false in
-    let part = written-part a.out.now 32768 found.if-out-lt32768.false call.put_file-bytes.ensures in
+    let rule = wrote a.list.now a.out.now (written a.content a.list.now) found.if-list-lt9000.false (omega arith) in
+    let part = written-part a.out.now 32768 (omega arith) call.put_file-bytes.ensures in
     record { answers = ap WroteBytes part.0 ∙ sym rule.0; leaves = part.1 ∙ sym rule.1 }

@@ -2,7 +2,6 @@
 use mathlib.Core.Path.{refl}
 use borrow.Author.Tests.{lt-ltb, le-ltb}
 use Rattle.call_replay.specs.Steps.{lent_short}
-use borrow.Author.Rules.{rules}
 use Rattle.call_replay.proofs.is_fresh_short.Goals as goal
 
 pub returns-then-least-lt-HOPS : goal.returns-then-least-lt-HOPS

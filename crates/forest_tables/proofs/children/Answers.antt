@@ -1,5 +1,4 @@
 -- The column is read.
-use borrow.Author.Rules.{rules}
 use Rattle.forest_tables.specs.Computed.{children_in}
 use Rattle.forest_tables.proofs.children.Goals as goal
 

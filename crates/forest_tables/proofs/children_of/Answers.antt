@@ -1,12 +1,12 @@
 use borrow.Author.Rules.{rules}
 use mathlib.Core.Path.{refl, ap, ◌∙◌}
-use Prim.Native.Nat.{ℕ, ◌-◌}
+use Prim.Native.Nat.{ℕ}
 use native.Mathlib.Omega.{arith}
 use lib.ListN.{length}
 use Rattle.sets.specs.Sets.{collect}
 use Rattle.layout.specs.Tables.{tabulate}
 use Rattle.layout.proofs.Tables.{length-tabulate}
-use Rattle.layout.proofs.Loops.{get_d_any, Reached, reached-turn, reached-all, collected_more}
+use Rattle.layout.proofs.Loops.{get_d_any, reached-turn, reached-all, collected_more}
 use Rattle.forest.specs.Forest.{parent}
 use Rattle.forest_tables.specs.Computed.{is_child, children_of, with_child}
 use Rattle.forest_tables.proofs.children_of.Goals as goal
@@ -23,7 +23,7 @@ unfolding with_child is_child parent
 loop-c-preserved c =
     let turn = c in
     let inv = turn.loop-c.invariant in
-    let ps = turn.args.t1 in
+    let ps = turn.args.parents in
     let k = turn.loop-c.c in
     reached-turn inv turn.loop-c-test.true
     (c.add_child.ensures ∙ ap (λ (u : ℕ). with_child u k turn.loop-c.table) (get_d_any ps k 0 255 (search rules))

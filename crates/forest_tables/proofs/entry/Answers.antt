@@ -1,5 +1,4 @@
 -- The tests are the rule's.
-use borrow.Author.Rules.{rules}
 use borrow.Author.Tests.{le-ltb, lt-ltb, ne_eqb}
 use Rattle.forest_tables.specs.Computed.{entry_of}
 use Rattle.forest_tables.proofs.entry.Goals as goal

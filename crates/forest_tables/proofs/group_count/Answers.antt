@@ -1,5 +1,4 @@
 -- The number is joined of its two halves.
-use borrow.Author.Rules.{rules}
 use Rattle.forest_tables.specs.Computed.{group_count}
 use Rattle.forest_tables.proofs.group_count.Goals as goal
 

@@ -1,19 +1,13 @@
-use borrow.Author.Rules.{rules}
 use mathlib.Core.Path.{◌≡◌, refl, ap, ◌∙◌}
 use mathlib.Core.List.{List}
-use Prim.Native.Nat.{ℕ, ◌+◌, ◌-◌, ◌%◌}
+use Prim.Native.Nat.{ℕ}
 use lib.ListN.{get_or}
 use Rattle.layout.specs.Tables.{tabulate}
-use Rattle.layout.proofs.Loops.{Filled, filled_none, filled-turn, filled-all}
+use Rattle.layout.proofs.Loops.{filled_none, filled-turn, filled-all}
 use Rattle.forest.specs.Forest.{primary, route}
 use Rattle.forest_tables.specs.Computed.{children_of, columns_of, tables_of, entry_of}
+use Rattle.forest_tables.proofs.of.Invariants.{entry_at}
 use Rattle.forest_tables.proofs.of.Goals as goal
-
--- number i, from the columns that it is made of
-abbrev entry_at : (n c : ℕ) (gs ps children routes primaries : List ℕ) → ℕ → ℕ
-entry_at n c gs ps children routes primaries i =
-    entry_of i (get_or gs (i % 24) 0) (get_or routes (i % 24) 0) (get_or primaries (i % 24) 0) (get_or children ((i + 24) % 32) 0)
-    (get_or ps ((i + 24) % 32) 0) n c
 
 -- all the numbers are the columns
 made : (n c : ℕ) (gs ps : List ℕ) → tabulate 140 (entry_at n c gs ps (tabulate 32 (children_of ps))
@@ -33,9 +27,9 @@ returns c =
     let found = c in
     let start = found in
     let a = start.args in
-    let n = a.units in let k = a.count in let ps = a.t4 in
+    let n = a.units in let k = a.count in let ps = a.parents in
     filled-all c.loop-i.invariant c.loop-i-test.false
     ∙ (λ i. tabulate 140 (entry_at n k start.counted-counted.result ps (found.children_of-children.ensures i)
-    (found.route_table-found.ensures.1 i)
-    (found.route_table-found.ensures.0 i)))
+    (found.route_table-found.ensures.routes i)
+    (found.route_table-found.ensures.primaries i)))
     ∙ made n k start.counted-counted.result ps ∙ ap (λ (table : List ℕ). columns_of n k table ps) start.counted-counted.ensures

@@ -1,5 +1,4 @@
 -- The column is read, and the primary is its lowest byte.
-use borrow.Author.Rules.{rules}
 use mathlib.Core.Path.{ap}
 use Prim.Native.Nat.{◌%◌}
 use Rattle.forest_tables.specs.Computed.{primary_in}

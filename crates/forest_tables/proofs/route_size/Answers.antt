@@ -1,5 +1,4 @@
 -- A set has at most 32 members, so the size fits.
-use borrow.Author.Rules.{rules}
 use mathlib.Core.Path.{ap, ◌∙◌}
 use native.Mathlib.Omega.{arith}
 use Rattle.sets.specs.Sets.{size}

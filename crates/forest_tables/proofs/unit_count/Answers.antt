@@ -1,5 +1,4 @@
 -- The number is joined of its two halves.
-use borrow.Author.Rules.{rules}
 use Rattle.forest_tables.specs.Computed.{unit_count}
 use Rattle.forest_tables.proofs.unit_count.Goals as goal
 

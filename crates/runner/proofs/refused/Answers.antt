@@ -1,5 +1,4 @@
 -- The line is printed from the start of the list.
-use borrow.Author.Rules.{rules}
 use Rattle.runner.proofs.refused.Goals as goal
 
 pub returns : goal.returns

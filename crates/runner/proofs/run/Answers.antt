@@ -1,5 +1,4 @@
 -- Each way through `run` is a case of the rules: too short a list, a refused file, or a file that was read.
-use borrow.Author.Rules.{rules}
 use mathlib.Core.Path.{refl}
 use native.Mathlib.Omega.{arith}
 use Rattle.runner.proofs.Outcomes.{run_short, run-turned, run-read, count_fits, count-length}

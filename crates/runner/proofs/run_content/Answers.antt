@@ -14,10 +14,7 @@ returns-then-number-ne0 c =
 pub returns : goal.returns
 returns c =
     let places : length c.args.content.groups ≡ 24 =
-    search (
-      rules,
-      c.well-formed,
-    ) in
+    search (rules, c.well_formed) in
     let run = c in let test = run in
     let number = test in let forest = number in
     content-ran forest.forest_of-forest.result.verdict forest.forest_of-forest.ensures.0 number.verdict_number-number.ensures

@@ -3,7 +3,6 @@ use mathlib.Core.Path.{◌≡◌, ap, ◌∙◌}
 use mathlib.Core.List.{List}
 use Prim.Native.Nat.{ℕ}
 use lib.ListN.{length}
-use borrow.Author.Rules.{rules}
 use Rattle.benchfile.specs.File.{read_file}
 use Rattle.benchfile.specs.Calls.{Answer, read_content}
 use Rattle.benchfile.specs.declared.Content.{Content}
@@ -13,17 +12,13 @@ use Rattle.scrollcairn_c.proofs.scrollcairn_read.Goals as goal
 
 pub returns-then-told-ne0 : goal.returns-then-told-ne0
 returns-then-told-ne0 c =
-    let test = c in
-    let told = test in
-    let read = told in
-    let said = read.read-read.ensures in
-    let o = read_file (length read.args.events.now)
-    read.args.file.now in
+    let said = c.read-read.ensures in
+    let o = read_file (length c.args.events.now) c.args.file.now in
     let stays : (f : Content → List ℕ) (before : List ℕ) → before ≡ stored_of f o before =
-    λ f before. refused-stored read.read-read.result.reply o said.answers told.of_read-told.result told.of_read-told.ensures f
-    before test.if-told-ne0.true in
+    λ f before. refused-stored c.read-read.result.reply o said.answers c.of_read-told.result c.of_read-told.ensures f before
+    c.if-told-ne0.true in
     record {
-      answers = c.put.ensures ∙ told.of_read-told.ensures ∙ ap (λ (a : Answer). told_by a 0) said.answers;
+      answers = c.put.ensures ∙ c.of_read-told.ensures ∙ ap (λ (a : Answer). told_by a 0) said.answers;
       leaves-events = said.leaves;
       leaves-groups = stays (λ x. x.groups) _;
       leaves-parents = stays (λ x. x.parents) _;
@@ -32,20 +27,15 @@ returns-then-told-ne0 c =
 
 pub returns : goal.returns
 returns c =
-    let stored = c in
-    let test = stored in
-    let told = test in
-    let read = told in
-    let said = read.read-read.ensures in
-    let o = read_file (length read.args.events.now)
-    read.args.file.now in
+    let said = c.read-read.ensures in
+    let o = read_file (length c.args.events.now) c.args.file.now in
     let changes : (f : Content → List ℕ) (before : List ℕ) → f (read_content o) ≡ stored_of f o before =
-    λ f before. good-stored read.read-read.result.reply o said.answers told.of_read-told.result told.of_read-told.ensures f
-    before test.if-told-ne0.false in
+    λ f before. good-stored c.read-read.result.reply o said.answers c.of_read-told.result c.of_read-told.ensures f before
+    c.if-told-ne0.false in
     record {
-      answers = c.put-3.ensures ∙ told.of_read-told.ensures ∙ ap (λ (a : Answer). told_by a 0) said.answers;
+      answers = c.put-3.ensures ∙ c.of_read-told.ensures ∙ ap (λ (a : Answer). told_by a 0) said.answers;
       leaves-events = said.leaves;
-      leaves-groups = stored.put-2.ensures.0 ∙ ap (λ (x : Content). x.groups) said.content ∙ changes (λ x. x.groups) _;
-      leaves-parents = stored.put-2.ensures.1 ∙ ap (λ (x : Content). x.parents) said.content ∙ changes (λ x. x.parents) _;
-      leaves-counts = stored.put-2.ensures.2 ∙ ap counts_of said.content ∙ changes counts_of _;
+      leaves-groups = c.put-2.ensures.0 ∙ ap (λ (x : Content). x.groups) said.content ∙ changes (λ x. x.groups) _;
+      leaves-parents = c.put-2.ensures.1 ∙ ap (λ (x : Content). x.parents) said.content ∙ changes (λ x. x.parents) _;
+      leaves-counts = c.put-2.ensures.2 ∙ ap counts_of said.content ∙ changes counts_of _;
     }

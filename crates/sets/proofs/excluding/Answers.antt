@@ -1,4 +1,3 @@
-use borrow.Author.Rules.{rules}
 use mathlib.Core.Path.{◌∙◌, ap}
 use Rattle.sets.specs.Sets.{difference, excluding}
 use Rattle.sets.proofs.excluding.Goals as goal

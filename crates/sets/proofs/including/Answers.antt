@@ -1,4 +1,3 @@
-use borrow.Author.Rules.{rules}
 use mathlib.Core.Path.{◌∙◌, ap}
 use Rattle.sets.specs.Sets.{union, including}
 use Rattle.sets.proofs.including.Goals as goal

@@ -1,4 +1,3 @@
-use borrow.Author.Rules.{rules}
 use mathlib.Core.Path.{refl, sym}
 use Rattle.sets.specs.Sets.{member}
 use Rattle.sets.proofs.Laws.{not-member}

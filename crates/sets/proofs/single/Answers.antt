@@ -1,4 +1,3 @@
-use borrow.Author.Rules.{rules}
 use Rattle.sets.specs.Sets.{single}
 use borrow.Author.Tests.{le-ltb}
 use Rattle.sets.proofs.Laws.{single_shift}

@@ -1,5 +1,4 @@
 -- Each field is what the function that makes it ensures.
-use borrow.Author.Rules.{rules}
 use Rattle.bench_promises.specs.Machine.{begun}
 use Rattle.bench_engine.proofs.arriving.begun.Goals as goal
 

@@ -1,5 +1,4 @@
 -- The reply is what `closed_reply` ensures.
-use borrow.Author.Rules.{rules}
 use Rattle.bench_engine.specs.Steps.{closed_as}
 use Rattle.bench_engine.proofs.arriving.closed.Goals as goal
 

@@ -1,5 +1,4 @@
 -- The two tests are the rule's.
-use borrow.Author.Rules.{rules}
 use borrow.Author.Tests.{lt-ltb, le-ltb}
 use Rattle.bench_promises.specs.Machine.{is_going}
 use Rattle.bench_engine.proofs.arriving.is_going.Goals as goal

@@ -1,5 +1,4 @@
 -- The number compared is the rule's.
-use borrow.Author.Rules.{rules}
 use Rattle.bench_promises.specs.Machine.{is_next}
 use Rattle.bench_engine.proofs.arriving.is_held.Goals as goal
 

@@ -1,5 +1,4 @@
 -- The test is the rule's.
-use borrow.Author.Rules.{rules}
 use Rattle.bench_promises.specs.Machine.{log_copy}
 use Rattle.bench_engine.proofs.arriving.log_copy.Goals as goal
 

@@ -1,5 +1,4 @@
 -- The test is the rule's.
-use borrow.Author.Rules.{rules}
 use Rattle.bench_promises.specs.Machine.{longer_by}
 use Rattle.bench_engine.proofs.arriving.longer.Goals as goal
 

@@ -1,5 +1,4 @@
 -- The test is the rule's.
-use borrow.Author.Rules.{rules}
 use native.Mathlib.Numerals.{add-one}
 use borrow.Author.Tests.{lt-ltb, le-ltb}
 use Rattle.bench_promises.specs.Machine.{search_from}

@@ -1,5 +1,4 @@
 -- The test is the rule's.
-use borrow.Author.Rules.{rules}
 use borrow.Author.Tests.{eq-eqb, ne_eqb}
 use Rattle.bench_promises.specs.Machine.{finished_totals}
 use Rattle.bench_engine.proofs.arriving.totals_after.Goals as goal

@@ -1,5 +1,4 @@
 -- The test is the rule's; each list is what the functions that store in it ensure.
-use borrow.Author.Rules.{rules}
 use borrow.Author.Tests.{eq-eqb, ne_eqb}
 use Rattle.bench_promises.specs.Machine.{finished_pairs, finished_gauges}
 use mathlib.Core.Path.{refl}
@@ -12,6 +11,5 @@ returns-then-a-eq0 c = rw (eq-eqb _ _ c.if-a-eq0.true) (refl, refl)
 pub returns : goal.returns
 unfolding finished_pairs finished_gauges
 returns c =
-    let gauges = c in let add = gauges in
-    let some = ne_eqb _ _ add.if-a-eq0.false in
-    (rw some add.add.ensures.1, rw some gauges.set_small_number.ensures)
+    let some = ne_eqb _ _ c.if-a-eq0.false in
+    (rw some c.add.ensures.1, rw some c.set_small_number.ensures)

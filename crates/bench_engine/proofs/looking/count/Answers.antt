@@ -2,7 +2,6 @@
 use borrow.Author.Tests.{lt-ltb, le-ltb}
 use Rattle.model.specs.Rules.{refuse}
 use Rattle.bench_promises.specs.Machine.{log_count}
-use borrow.Author.Rules.{rules}
 use Rattle.bench_engine.proofs.looking.count.Goals as goal
 
 pub returns-then-length-gt-MESSAGES : goal.returns-then-length-gt-MESSAGES

@@ -10,7 +10,6 @@ use Rattle.bench_promises.specs.State.{Bench, bench}
 use Rattle.bench_promises.specs.Promises.{LogPromise}
 use Rattle.bench_promises.proofs.LogParts.{log-inside}
 use Rattle.bench_promises.proofs.Promised.{log-promise, log-place}
-use borrow.Author.Rules.{rules}
 use Rattle.bench_engine.proofs.looking.log.Goals as goal
 
 pub overflow_add-end : goal.overflow_add-end
@@ -39,7 +38,14 @@ returns c =
     arith in z)
     ∙ ap (λ (k : ℕ). take count.result (drop k book)) start.ensures
     ∙ ap (λ (k : ℕ). take k (drop (log_start ts u (length book)) book)) count.ensures in
-    let b : Totals → List ℕ → List (List (List ℕ)) → Bench = λ t ms ps. bench t ts ms ps gs in (
-      λ t ms ps. subst (LogPromise (b t ms ps) u book) (sym part) (log-promise (b t ms ps) u book),
-      λ t ms ps. log-place (b t ms ps) u args.book _ (λ i. (args.book.ptr.0, (start.ensures i) * 2 + args.book.ptr.1)),
-    )
+    let b : Totals → List ℕ → List (List (List ℕ)) → Bench = λ t ms ps. bench t ts ms ps gs in
+    record {
+      promise = λ t ms ps. subst (LogPromise (b t ms ps) u book) (sym part) (log-promise (b t ms ps) u book);
+      place = λ t ms ps. log-place (b t ms ps) u args.book _
+          (λ i. (args.book.ref_ptr.0, (start.ensures i) * 2 + args.book.ref_ptr.1));
+    }
+
+pub slice_bounds-result-end : goal.slice_bounds-result-end
+slice_bounds-result-end c =
+    let args = c.args in omega
+    (arith, c.start-start.ensures, c.count-count.ensures, log-inside args.tables.now args.gauges.now args.unit (length args.book.now))

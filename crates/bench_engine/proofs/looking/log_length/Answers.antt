@@ -8,7 +8,6 @@ use Rattle.bench_promises.specs.Machine.{log_reply}
 use Rattle.bench_promises.specs.State.{bench}
 use Rattle.bench_promises.specs.Promises.{LengthPromise}
 use Rattle.bench_promises.proofs.Promised.{length-promise}
-use borrow.Author.Rules.{rules}
 use Rattle.bench_engine.proofs.looking.log_length.Goals as goal
 
 pub returns-then-book-lt-BOOK : goal.returns-then-book-lt-BOOK

@@ -7,7 +7,6 @@ use Rattle.bench_promises.specs.Machine.{log_start, log_count}
 use Rattle.bench_promises.specs.State.{Bench, bench}
 use Rattle.bench_promises.specs.Promises.{PartPromise}
 use Rattle.bench_promises.proofs.Promised.{part-promise}
-use borrow.Author.Rules.{rules}
 use Rattle.bench_engine.proofs.looking.log_part.Goals as goal
 
 numbers : (b : Bench) (u : ℕ) (book : List ℕ) (start count : ℕ) → start ≡ log_start b.tables u (length book)

@@ -1,6 +1,5 @@
 -- The start is what `unless_refused` ensures.
 use Rattle.bench_promises.specs.Machine.{log_start}
-use borrow.Author.Rules.{rules}
 use Rattle.bench_engine.proofs.looking.start.Goals as goal
 
 pub returns : goal.returns

@@ -2,7 +2,6 @@
 use borrow.Author.Tests.{lt-ltb, le-ltb, lt-leb, le-leb}
 use Rattle.model.specs.Rules.{refuse}
 use Rattle.bench_promises.specs.Machine.{unless_refused}
-use borrow.Author.Rules.{rules}
 use Rattle.bench_engine.proofs.looking.unless_refused.Goals as goal
 
 pub returns-then-book-lt-BOOK : goal.returns-then-book-lt-BOOK

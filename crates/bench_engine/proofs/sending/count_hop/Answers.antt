@@ -1,5 +1,4 @@
 -- The number and the counts are what `raise_by_value` ensures.
-use borrow.Author.Rules.{rules}
 use Rattle.bench_promises.specs.Machine.{sequence_of, recorded_pairs}
 use Rattle.bench_engine.proofs.sending.count_hop.Goals as goal
 

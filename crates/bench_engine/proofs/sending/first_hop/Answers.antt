@@ -1,5 +1,4 @@
 -- Each field is what the function that makes it ensures.
-use borrow.Author.Rules.{rules}
 use Rattle.bench_promises.specs.Machine.{first_hop}
 use Rattle.bench_engine.proofs.sending.first_hop.Goals as goal
 

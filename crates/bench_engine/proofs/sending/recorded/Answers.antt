@@ -1,5 +1,4 @@
 -- Each field is what the function that makes it ensures.
-use borrow.Author.Rules.{rules}
 use Rattle.bench_promises.specs.Machine.{recorded_totals}
 use Rattle.bench_engine.proofs.sending.recorded.Goals as goal
 

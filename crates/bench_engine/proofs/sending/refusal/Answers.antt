@@ -1,5 +1,4 @@
 -- The tests are the rule's, one after the other.
-use borrow.Author.Rules.{rules}
 use borrow.Author.Tests.{lt-ltb, le-ltb, lt-leb, le-leb}
 use Rattle.bench_promises.specs.Machine.{send_refusal}
 use Rattle.model.specs.Rules.{refuse}
@@ -15,59 +14,49 @@ returns-then-unit_count-source c = rw (le-ltb _ _ c.if-hops-lt-HOPS.false, ← c
 
 pub returns-then-group_count-group : goal.returns-then-group_count-group
 unfolding send_refusal refuse
-returns-then-group_count-group c =
-    let test = c in let units = test in
-    rw (
-      le-ltb _ _ units.if-hops-lt-HOPS.false,
-      ← units.unit_count.ensures,
-      lt-leb _ _ test.if-unit_count-source.false,
-      ← c.group_count.ensures,
-      le-leb _ _ c.if-group_count-group.true,
-    )
+returns-then-group_count-group c = rw (
+  le-ltb _ _ c.if-hops-lt-HOPS.false,
+  ← c.unit_count.ensures,
+  lt-leb _ _ c.if-unit_count-source.false,
+  ← c.group_count.ensures,
+  le-leb _ _ c.if-group_count-group.true,
+)
 
 pub returns-then-t-ge-MESSAGES : goal.returns-then-t-ge-MESSAGES
 unfolding send_refusal refuse
-returns-then-t-ge-MESSAGES c =
-    let test = c in let groups = test in let units = groups in
-    rw (
-      le-ltb _ _ units.if-hops-lt-HOPS.false,
-      ← units.unit_count.ensures,
-      lt-leb _ _ groups.if-unit_count-source.false,
-      ← groups.group_count.ensures,
-      lt-leb _ _ test.if-group_count-group.false,
-      le-leb _ _ c.if-t-ge-MESSAGES.true,
-    )
+returns-then-t-ge-MESSAGES c = rw (
+  le-ltb _ _ c.if-hops-lt-HOPS.false,
+  ← c.unit_count.ensures,
+  lt-leb _ _ c.if-unit_count-source.false,
+  ← c.group_count.ensures,
+  lt-leb _ _ c.if-group_count-group.false,
+  le-leb _ _ c.if-t-ge-MESSAGES.true,
+)
 
 pub returns-then-plus-gt-HOPS : goal.returns-then-plus-gt-HOPS
 unfolding send_refusal refuse
-returns-then-plus-gt-HOPS c =
-    let size = c in let test = size in let groups = test in
-    let units = groups in
-    rw (
-      le-ltb _ _ units.if-hops-lt-HOPS.false,
-      ← units.unit_count.ensures,
-      lt-leb _ _ groups.if-unit_count-source.false,
-      ← groups.group_count.ensures,
-      lt-leb _ _ test.if-group_count-group.false,
-      lt-leb _ _ size.if-t-ge-MESSAGES.false,
-      ← size.route_size-size.ensures,
-      ← c.plus.ensures,
-      lt-ltb _ _ c.if-plus-gt-HOPS.true,
-    )
+returns-then-plus-gt-HOPS c = rw (
+  le-ltb _ _ c.if-hops-lt-HOPS.false,
+  ← c.unit_count.ensures,
+  lt-leb _ _ c.if-unit_count-source.false,
+  ← c.group_count.ensures,
+  lt-leb _ _ c.if-group_count-group.false,
+  lt-leb _ _ c.if-t-ge-MESSAGES.false,
+  ← c.route_size-size.ensures,
+  ← c.plus.ensures,
+  lt-ltb _ _ c.if-plus-gt-HOPS.true,
+)
 
 pub returns : goal.returns
 unfolding send_refusal refuse
-returns c =
-    let size = c in let test = size in let groups = test in
-    let units = groups in
-    rw (
-      le-ltb _ _ units.if-hops-lt-HOPS.false,
-      ← units.unit_count.ensures,
-      lt-leb _ _ groups.if-unit_count-source.false,
-      ← groups.group_count.ensures,
-      lt-leb _ _ test.if-group_count-group.false,
-      lt-leb _ _ size.if-t-ge-MESSAGES.false,
-      ← size.route_size-size.ensures,
-      ← c.plus.ensures,
-      le-ltb _ _ c.if-plus-gt-HOPS.false,
-    )
+returns c = rw (
+  le-ltb _ _ c.if-hops-lt-HOPS.false,
+  ← c.unit_count.ensures,
+  lt-leb _ _ c.if-unit_count-source.false,
+  ← c.group_count.ensures,
+  lt-leb _ _ c.if-group_count-group.false,
+  lt-leb _ _ c.if-t-ge-MESSAGES.false,
+  ← c.route_size-size.ensures,
+  ← c.plus.ensures,
+  le-ltb _ _ c.if-plus-gt-HOPS.false,
+)

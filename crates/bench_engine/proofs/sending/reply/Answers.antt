@@ -1,5 +1,4 @@
 -- The tests are the rule's, one after the other.
-use borrow.Author.Rules.{rules}
 use borrow.Author.Tests.{eq-eqb, ne_eqb}
 use Rattle.bench_promises.specs.Machine.{sent_reply}
 use Rattle.model.specs.Rules.{refuse}
@@ -27,13 +26,11 @@ returns-then-refusal-eq15 c = rw c.if-refusal-eq15.true
 
 pub returns : goal.returns
 unfolding sent_reply refuse
-returns c =
-    let test = c in let test-a = test in let test-b = test-a in let test-c = test-b in
-    rw (
-      c.plus.ensures,
-      ne_eqb _ 1 test-c.if1.false,
-      ne_eqb _ 12 test-b.if2.false,
-      ne_eqb _ 13 test-a.if3.false,
-      ne_eqb _ 14 test.if-refusal-eq14.false,
-      ne_eqb _ 15 c.if-refusal-eq15.false,
-    )
+returns c = rw (
+  c.plus.ensures,
+  ne_eqb _ 1 c.if-refusal-eq1.false,
+  ne_eqb _ 12 c.if-refusal-eq12.false,
+  ne_eqb _ 13 c.if-refusal-eq13.false,
+  ne_eqb _ 14 c.if-refusal-eq14.false,
+  ne_eqb _ 15 c.if-refusal-eq15.false,
+)

@@ -1,5 +1,4 @@
 -- The reply is what `reply` ensures.
-use borrow.Author.Rules.{rules}
 use Rattle.bench_engine.specs.Steps.{turned_away}
 use Rattle.bench_engine.proofs.sending.turned_away.Goals as goal
 

@@ -1,5 +1,4 @@
 -- A number put past the end of the row leaves the row as it was.
-use borrow.Author.Rules.{rules}
 use mathlib.Core.Path.{sym}
 use lib.Seq.{set_out}
 use Rattle.bench_store.proofs.book.append.Goals as goal

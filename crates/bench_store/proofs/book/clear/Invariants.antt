@@ -1,12 +1,7 @@
 -- The loop's invariant: the first `at` places hold 0, and the book is as long as it was.
-use borrow.Author.Rules.{rules}
-use mathlib.Core.Path.{◌≡◌, refl, sym, ap, ◌∙◌}
-use mathlib.Core.Logic.{⊎_elim}
+use mathlib.Core.Path.{◌≡◌}
 use Prim.Native.Nat.{◌-◌, ◌≤◌}
-use native.Mathlib.Numerals.{add-one}
-use native.Mathlib.Omega.{arith}
-use lib.ListN.{length, set, length-set}
-use lib.Seq.{set_out}
+use lib.ListN.{length}
 use Rattle.bench_store.specs.Values.{filled}
 use Rattle.bench_store.proofs.book.clear.Given as goal
 

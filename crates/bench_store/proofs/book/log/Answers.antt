@@ -1,5 +1,4 @@
 -- The row of the unit is lent and comes back with the message put; where the unit or its row is not there, the book is as it was.
-use borrow.Author.Rules.{rules}
 use borrow.Author.Tests.{le-ltb, lt-ltb, lt-leb}
 use Rattle.bench_store.specs.Values.{logged}
 use Rattle.bench_store.proofs.Parts.{row_back}

@@ -1,5 +1,4 @@
 -- Within the column the number of the list is read; past it the rule gives 0.
-use borrow.Author.Rules.{rules}
 use native.Mathlib.Omega.{arith}
 use Rattle.bench_store.proofs.ColumnLaws.{column_read, column_none}
 use Rattle.bench_store.proofs.columns.number.Goals as goal

@@ -1,5 +1,4 @@
 -- A store within the column is the rule's; any other changes nothing.
-use borrow.Author.Rules.{rules}
 use native.Mathlib.Omega.{arith}
 use Rattle.bench_store.proofs.ColumnLaws.{column_stored, column_kept}
 use Rattle.bench_store.proofs.columns.set_number.Goals as goal

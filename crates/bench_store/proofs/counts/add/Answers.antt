@@ -1,8 +1,7 @@
 -- The count of a pair is changed in its array; where the array is missing or one is no unit nothing changes, and n follows on the 0 read.
-use borrow.Author.Rules.{rules}
 use borrow.Author.Tests.{le-ltb, lt-ltb}
 use mathlib.Core.Path.{◌≡◌, refl}
-use Prim.Native.Nat.{ℕ, ◌+◌, ◌<◌, ◌^◌}
+use Prim.Native.Nat.{ℕ, ◌<◌, ◌^◌}
 use native.Mathlib.Omega.{arith}
 use Rattle.bench_store.specs.Values.{plus, capped, count_in, added_in, added, is_pair}
 use Rattle.bench_store.proofs.counts.add.Goals as goal

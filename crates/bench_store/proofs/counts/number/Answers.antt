@@ -1,5 +1,4 @@
 -- The count of a pair is read in its array; where the array is missing or one is no unit the rule gives 0.
-use borrow.Author.Rules.{rules}
 use borrow.Author.Tests.{le-ltb, lt-ltb}
 use Rattle.bench_store.specs.Values.{count_in, is_pair}
 use Rattle.bench_store.proofs.counts.number.Goals as goal

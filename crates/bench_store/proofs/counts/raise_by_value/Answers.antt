@@ -1,5 +1,4 @@
 -- The sender's row, raised by value, is stored in its array; where the array is missing or one is no unit nothing changes.
-use borrow.Author.Rules.{rules}
 use mathlib.Core.Path.{◌≡◌, refl, sym, ap, ◌∙◌}
 use mathlib.Core.List.{List, []}
 use Prim.Native.Nat.{ℕ, ◌<◌}
@@ -34,7 +33,7 @@ unfolding count_in added_in raised_row is_pair
 returns c =
     let test = c in
     let a = test.args in
-    let o = c.raised-row.type-inv in
+    let o = c.raised-row.type_inv in
     let row : List ℕ = get_or (get_or a.pairs.now a.k []) a.sender [] in
     let e : c.raised-row.result ≡ added row a.receiver 1 = c.raised-row.ensures
     ∙ simp (lt-ltb _ _ test.if-sender-ge-UNITS.false, lt-ltb _ _ test.if-receiver-ge-UNITS.false) in

@@ -1,5 +1,4 @@
 -- The row is copied out of the array, and the count in it raised; where one is no unit there are zeros.
-use borrow.Author.Rules.{rules}
 use borrow.Author.Tests.{le-ltb, lt-ltb}
 use Rattle.bench_store.specs.Values.{raised_row, added, is_pair}
 use Rattle.bench_store.proofs.counts.raised.Goals as goal

@@ -1,5 +1,4 @@
 -- The row is read in its array; where the array is missing or the sender is no unit the rule gives zeros.
-use borrow.Author.Rules.{rules}
 use borrow.Author.Tests.{le-ltb, lt-ltb}
 use Rattle.bench_store.specs.Values.{row_in}
 use Rattle.bench_store.proofs.counts.row.Goals as goal

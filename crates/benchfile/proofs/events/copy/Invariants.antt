@@ -1,14 +1,7 @@
 -- The loop's invariant: the first `i` numbers are written. Where it ends, all are, or one of the lists is at its end.
-use borrow.Author.Rules.{rules}
-use mathlib.Core.Path.{◌≡◌, sym, ◌∙◌, subst}
-use mathlib.Core.Logic.{◌⊎◌, ⊎_elim}
-use mathlib.Core.List.{List}
-use Prim.Native.Nat.{ℕ, ◌+◌, ◌-◌, ◌≤◌, ◌<◌}
-use native.Mathlib.Omega.{arith}
-use lib.ListN.{length, take, drop}
-use lib.Seq.{take_all, take-add}
+use Prim.Native.Nat.{◌-◌, ◌≤◌}
+use lib.ListN.{take}
 use Rattle.text.specs.Writing.{Written}
-use Rattle.text.proofs.Written.{written_none, written_byte, written_over, written_append, written-more, written-length}
 use Rattle.benchfile.proofs.events.copy.Given as goal
 
 abbrev pub invariant-loop-i : goal.invariant-loop-i

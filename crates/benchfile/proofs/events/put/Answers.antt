@@ -1,5 +1,4 @@
 -- One number is written where there is room, and none at the end.
-use borrow.Author.Rules.{rules}
 use Rattle.text.proofs.Written.{written_byte, written_past}
 use Rattle.benchfile.proofs.events.put.Goals as goal
 

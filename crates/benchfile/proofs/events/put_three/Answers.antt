@@ -1,5 +1,4 @@
 -- Three numbers are written one after the other.
-use borrow.Author.Rules.{rules}
 use Rattle.text.proofs.Written.{written_append}
 use Rattle.benchfile.proofs.events.put_three.Goals as goal
 

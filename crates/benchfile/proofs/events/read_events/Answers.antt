@@ -1,9 +1,5 @@
-use borrow.Author.Rules.{rules}
-use Prim.Native.Nat.{◌-◌}
 use native.Mathlib.Omega.{arith}
-use lib.ListN.{length}
-use Rattle.text.proofs.Written.{written-length}
-use Rattle.benchfile.proofs.EventLines.{ReadSoFar, read_none, line-bad, line-full, line-inside, line-good, read_all}
+use Rattle.benchfile.proofs.EventLines.{read_none, line-bad, line-full, line-inside, line-good, read_all}
 use Rattle.benchfile.proofs.events.read_events.Goals as goal
 
 pub loop-at-init : goal.loop-at-init
@@ -36,7 +32,7 @@ pub loop-at-preserved : goal.loop-at-preserved
 loop-at-preserved c =
     let put = c in let good = put in
     let line = good in let turn = line in
-    line-good turn.loop-at.invariant turn.loop-at-test.true _ line.event-line.ensures good.if-line-ne0.false put.if-count-ge3000.false
+    line-good turn.loop-at.invariant turn.loop-at-test.true _ line.event-line.ensures good.if-line-ne0.false (omega arith)
     put.put_three-next.ensures
 
 pub returns : goal.returns

@@ -1,10 +1,7 @@
 -- The loop's invariant: so many events were read and their numbers written, and the rest of the text decides what is still to come.
-use borrow.Author.Rules.{rules}
 use Prim.Native.Nat.{◌-◌}
-use native.Mathlib.Omega.{arith}
 use lib.ListN.{length}
-use Rattle.text.proofs.Written.{written-length}
-use Rattle.benchfile.proofs.EventLines.{ReadSoFar, read_none, line-bad, line-full, line-inside, line-good, read_all}
+use Rattle.benchfile.proofs.EventLines.{ReadSoFar}
 use Rattle.benchfile.proofs.events.read_events.Given as goal
 
 abbrev pub invariant-loop-at : goal.invariant-loop-at

@@ -1,5 +1,4 @@
 -- The events that were read are copied where all lines are good; else the list stays.
-use borrow.Author.Rules.{rules}
 use Rattle.benchfile.proofs.EventLines.{stored-good, stored-bad}
 use Rattle.benchfile.proofs.events.store.Goals as goal
 

@@ -1,7 +1,5 @@
-use borrow.Author.Rules.{rules}
-use Prim.Native.Nat.{◌-◌}
 use native.Mathlib.Omega.{arith}
-use Rattle.benchfile.proofs.HeadingLines.{GroupsSoFar, groups_none, groups-refused, group-inside, groups-turn, groups-read}
+use Rattle.benchfile.proofs.HeadingLines.{groups_none, groups-refused, group-inside, groups-turn, groups-read}
 use Rattle.benchfile.proofs.heading.group_lines.Goals as goal
 
 pub loop-i-init : goal.loop-i-init

@@ -1,8 +1,6 @@
 -- The loop's invariant: so many lines were read, and the rest of the text decides what is still to come.
-use borrow.Author.Rules.{rules}
 use Prim.Native.Nat.{◌-◌}
-use native.Mathlib.Omega.{arith}
-use Rattle.benchfile.proofs.HeadingLines.{GroupsSoFar, groups_none, groups-refused, group-inside, groups-turn, groups-read}
+use Rattle.benchfile.proofs.HeadingLines.{GroupsSoFar}
 use Rattle.benchfile.proofs.heading.group_lines.Given as goal
 
 abbrev pub invariant-loop-i : goal.invariant-loop-i

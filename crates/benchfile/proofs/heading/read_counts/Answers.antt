@@ -1,5 +1,4 @@
 -- The two counts are read one after the other.
-use borrow.Author.Rules.{rules}
 use native.Mathlib.Omega.{arith}
 use Rattle.benchfile.proofs.HeadingLines.{counts-refused, first-bad, first-inside, first-most, second-bad, second-inside}
 use Rattle.benchfile.proofs.HeadingLines.{second-most, counts-read}
@@ -7,6 +6,9 @@ use Rattle.benchfile.proofs.heading.read_counts.Goals as goal
 
 pub returns-then-first-ne0 : goal.returns-then-first-ne0
 returns-then-first-ne0 c = counts-refused (first-bad _ _ c.units-first.ensures c.if-first-ne0.true) c.no_counts.ensures
+
+pub slice_bounds-groups-start : goal.slice_bounds-groups-start
+slice_bounds-groups-start c = first-inside _ _ c.units-first.ensures c.if-first-ne0.false
 
 pub slice_bounds-groups-count : goal.slice_bounds-groups-count
 slice_bounds-groups-count c = first-inside _ _ c.units-first.ensures c.if-first-ne0.false

@@ -1,5 +1,4 @@
 -- The lines before the events are read one after the other.
-use borrow.Author.Rules.{rules}
 use native.Mathlib.Omega.{arith}
 use Rattle.benchfile.proofs.HeadingLines.{heading_refused, groups-bad, drawing-bad, drawing-inside, heading_read}
 use Rattle.benchfile.proofs.heading.read_heading.Goals as goal

@@ -1,11 +1,7 @@
 use mathlib.Core.Path.{◌≡◌}
-use mathlib.Core.List.{map}
-use Prim.Native.Nat.{◌*◌, ◌-◌, ◌≤◌}
 use native.Mathlib.Omega.{arith}
 use borrow.Author.Rules.{rules}
-use lib.ListN.{length}
-use Rattle.text.specs.Writing.{Written}
-use Rattle.text.proofs.Written.{written_none, written-length}
+use Rattle.text.proofs.Written.{written_none}
 use Rattle.lines.specs.Lines.{event_line}
 use Rattle.benchfile.specs.File.{ended}
 use Rattle.benchfile.specs.Calls.{events_from}

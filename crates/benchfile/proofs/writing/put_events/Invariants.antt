@@ -2,15 +2,11 @@
 use mathlib.Core.Path.{◌≡◌}
 use mathlib.Core.List.{map}
 use Prim.Native.Nat.{◌*◌, ◌-◌, ◌≤◌}
-use native.Mathlib.Omega.{arith}
-use borrow.Author.Rules.{rules}
 use lib.ListN.{length}
 use Rattle.text.specs.Writing.{Written}
-use Rattle.text.proofs.Written.{written_none, written-length}
 use Rattle.lines.specs.Lines.{event_line}
 use Rattle.benchfile.specs.File.{ended}
 use Rattle.benchfile.specs.Calls.{events_from}
-use Rattle.benchfile.proofs.WrittenLines.{written-line, events-more, events-end}
 use Rattle.benchfile.proofs.writing.put_events.Given as goal
 
 abbrev pub invariant-loop-k : goal.invariant-loop-k

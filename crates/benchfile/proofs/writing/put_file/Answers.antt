@@ -1,5 +1,4 @@
 -- The lines of the file, one call after another.
-use borrow.Author.Rules.{rules}
 use Rattle.lines.specs.Lines.{units_key, groups_key}
 use Rattle.benchfile.specs.Calls.{file_of}
 use Rattle.benchfile.proofs.WrittenLines.{written-file}

@@ -1,12 +1,10 @@
 use mathlib.Core.Path.{◌≡◌}
-use mathlib.Core.List.{map}
-use Prim.Native.Nat.{◌-◌, ◌≤◌}
+use Prim.Native.Nat.{◌≤◌}
 use native.Mathlib.Omega.{arith}
 use borrow.Author.Rules.{rules}
-use lib.ListN.{length, take}
+use lib.ListN.{length}
 use lib.Seq.{take_all}
-use Rattle.text.specs.Writing.{Written}
-use Rattle.text.proofs.Written.{written_none, written-length}
+use Rattle.text.proofs.Written.{written_none}
 use Rattle.lines.specs.Lines.{group_line}
 use Rattle.benchfile.specs.File.{ended}
 use Rattle.benchfile.proofs.WrittenLines.{written-turn}
@@ -20,15 +18,15 @@ pub returns-then-i-ge24 : goal.returns-then-i-ge24
 returns-then-i-ge24 c =
     let loop = c.loop-i in
     let a = c.args in
-    let all : length a.t3 ≡ 24 = search rules in
-    let past : length a.t3 ≤ loop.i = omega arith in
-    rw (take_all a.count a.t3 (omega arith)) (rw (take_all loop.i a.t3 past) at loop.invariant.2)
+    let all : length a.groups ≡ 24 = search rules in
+    let past : length a.groups ≤ loop.i = omega arith in
+    rw (take_all a.count a.groups (omega arith)) (rw (take_all loop.i a.groups past) at loop.invariant.2)
 
 pub loop-i-preserved : goal.loop-i-preserved
 loop-i-preserved c =
     let turn = c in
     let loop = turn.loop-i in
-    let gs = turn.args.t3 in
+    let gs = turn.args.groups in
     let all : length gs ≡ 24 = search rules in
     (search rules, search rules, written-turn group_line gs loop.i (omega arith) loop.invariant.2 c.put_group-next.ensures)
 

@@ -1,16 +1,10 @@
 -- The loop's invariant: the lines of the first `i` groups are written.
-use mathlib.Core.Path.{◌≡◌}
 use mathlib.Core.List.{map}
 use Prim.Native.Nat.{◌-◌, ◌≤◌}
-use native.Mathlib.Omega.{arith}
-use borrow.Author.Rules.{rules}
-use lib.ListN.{length, take}
-use lib.Seq.{take_all}
+use lib.ListN.{take}
 use Rattle.text.specs.Writing.{Written}
-use Rattle.text.proofs.Written.{written_none, written-length}
 use Rattle.lines.specs.Lines.{group_line}
 use Rattle.benchfile.specs.File.{ended}
-use Rattle.benchfile.proofs.WrittenLines.{written-turn}
 use Rattle.benchfile.proofs.writing.put_groups.Given as goal
 
 abbrev pub invariant-loop-i : goal.invariant-loop-i

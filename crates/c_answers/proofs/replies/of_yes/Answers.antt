@@ -1,7 +1,6 @@
 -- The test computes the rule.
 use Rattle.c_answers.specs.Replies.{rest_numbers}
 use Rattle.model.specs.Network.{bit}
-use borrow.Author.Rules.{rules}
 use Rattle.c_answers.proofs.replies.of_yes.Goals as goal
 
 pub returns-then-yes : goal.returns-then-yes

@@ -1,7 +1,6 @@
 -- The reply is told by its three numbers.
 use Rattle.call_replay.specs.Steps.{after_arrive}
 use Rattle.c_answers.proofs.Threes.{reply-is}
-use borrow.Author.Rules.{rules}
 use Rattle.call_replay.proofs.replies.after_arrive.Goals as goal
 
 pub returns : goal.returns

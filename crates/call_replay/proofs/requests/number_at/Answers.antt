@@ -1,7 +1,6 @@
 -- Past the end the rule gives 0.
 use mathlib.Core.Path.{sym}
 use lib.ListN.{get_or-eq_default}
-use borrow.Author.Rules.{rules}
 use Rattle.call_replay.proofs.requests.number_at.Goals as goal
 
 pub returns : goal.returns

@@ -2,19 +2,12 @@
 use mathlib.Core.List.{[], ◌∷◌}
 use Rattle.text.proofs.Written.{written_is, written_append}
 use Rattle.call_replay.specs.Rules.{hop_numbers}
-use borrow.Author.Rules.{rules}
 use Rattle.call_replay.proofs.writing.put_hop.Goals as goal
 
 pub returns : goal.returns
 unfolding hop_numbers
 returns c =
-    let put = c in let put_a = put in
-    let earlier = put_a in let earlier-a = earlier in
-    let first = earlier-a in
-    let second = earlier in
-    let last = c in
-    let hop = first.args.hop in
-    written_is (λ i. first.wide.ensures i ∷ second.wide-2.ensures i ∷ hop.sequence ∷
-    hop.message ∷ last.wide-3.ensures i ∷ [])
-    (written_append first.put.ensures (written_append second.put-receiver.ensures (written_append put_a.put-sequence.ensures
-    (written_append put.put-message.ensures last.put.ensures))))
+    let hop = c.args.hop in
+    written_is (λ i. c.wide.ensures i ∷ c.wide-2.ensures i ∷ hop.sequence ∷ hop.message ∷ c.wide-3.ensures i ∷ [])
+    (written_append c.put-sender.ensures (written_append c.put-receiver.ensures (written_append c.put-sequence.ensures
+    (written_append c.put-message.ensures c.put.ensures))))

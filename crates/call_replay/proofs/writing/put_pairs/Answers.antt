@@ -1,9 +1,8 @@
 use mathlib.Core.Path.{◌≡◌, ap}
-use Prim.Native.Nat.{ℕ, ◌-◌, ◌≤◌}
+use Prim.Native.Nat.{ℕ}
 use native.Mathlib.Omega.{arith}
 use borrow.Author.Rules.{rules}
-use Rattle.text.specs.Writing.{Written}
-use Rattle.text.proofs.Written.{written_is, written_none, written-length}
+use Rattle.text.proofs.Written.{written_is, written_none}
 use Rattle.bench_promises.specs.State.{joined}
 use Rattle.call_replay.specs.Claims.{rows_of}
 use Rattle.call_replay.proofs.Puts.{rows_more}
@@ -15,9 +14,8 @@ loop-sender-init c = (search rules, written_none _ _)
 
 pub loop-sender-preserved : goal.loop-sender-preserved
 loop-sender-preserved c =
-    let turn = c in
-    let loop = turn.loop-sender in
-    let args = turn.args in
+    let loop = c.loop-sender in
+    let args = c.args in
     let row = c.row-row.ensures in
     (search rules, rows_more args.pairs.now args.k loop.sender _ row loop.invariant.1 c.put_widened-next.ensures)
 

@@ -1,13 +1,7 @@
 -- The loop's invariant: the rows of the first senders are put.
-use mathlib.Core.Path.{◌≡◌, ap}
-use Prim.Native.Nat.{ℕ, ◌-◌, ◌≤◌}
-use native.Mathlib.Omega.{arith}
-use borrow.Author.Rules.{rules}
+use Prim.Native.Nat.{◌-◌, ◌≤◌}
 use Rattle.text.specs.Writing.{Written}
-use Rattle.text.proofs.Written.{written_is, written_none, written-length}
-use Rattle.bench_promises.specs.State.{joined}
 use Rattle.call_replay.specs.Claims.{rows_of}
-use Rattle.call_replay.proofs.Puts.{rows_more}
 use Rattle.call_replay.proofs.writing.put_pairs.Given as goal
 
 abbrev pub invariant-loop-sender : goal.invariant-loop-sender

@@ -2,7 +2,6 @@
 use mathlib.Core.Path.{ap, ◌∙◌}
 use Rattle.sets.specs.Sets.{excluding}
 use Rattle.hops.specs.Access.{with_pairs, without_pairs, forwarding_after_next}
-use borrow.Author.Rules.{rules}
 use Rattle.hops.proofs.forwarding.after.Goals as goal
 
 pub returns : goal.returns

@@ -1,5 +1,5 @@
 -- `next_hop` makes the record for the lowest child; a unit's number fits in 8 bits.
-use mathlib.Core.Path.{◌≡◌, ap, ◌∙◌}
+use mathlib.Core.Path.{ap, ◌∙◌}
 use mathlib.Core.List.{List}
 use Prim.Native.Nat.{ℕ, ◌≤◌}
 use native.Mathlib.Omega.{arith}
@@ -7,7 +7,6 @@ use lib.Count.{trailing_le}
 use Rattle.sets.specs.Sets.{lowest}
 use Rattle.bench_store.specs.Values.{plus, count_in, added_in}
 use Rattle.hops.specs.Access.{with_pairs, next_hop, forwarding_after_next}
-use borrow.Author.Rules.{rules}
 use Rattle.hops.proofs.forwarding.next_hop.Goals as goal
 
 pub overflow_cast-result : goal.overflow_cast-result

@@ -1,5 +1,4 @@
 -- What is taken and the refusal are the rule's.
-use borrow.Author.Rules.{rules}
 use Rattle.runner.specs.Steps.{after_arrive}
 use Rattle.runner.proofs.events.after_arrive.Goals as goal
 

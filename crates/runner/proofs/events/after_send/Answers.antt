@@ -1,5 +1,4 @@
 -- The refusal is the rule's.
-use borrow.Author.Rules.{rules}
 use Rattle.runner.specs.Steps.{after_send}
 use Rattle.runner.proofs.events.after_send.Goals as goal
 

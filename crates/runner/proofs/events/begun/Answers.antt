@@ -1,5 +1,4 @@
 -- The line is the rule's.
-use borrow.Author.Rules.{rules}
 use Rattle.runner.specs.Steps.{begun_with}
 use Rattle.runner.proofs.events.begun.Goals as goal
 

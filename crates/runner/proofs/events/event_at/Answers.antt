@@ -1,5 +1,4 @@
 -- The three numbers are the rule's.
-use borrow.Author.Rules.{rules}
 use Rattle.runner.specs.Steps.{event_at}
 use Rattle.runner.proofs.events.event_at.Goals as goal
 

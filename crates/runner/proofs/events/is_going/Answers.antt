@@ -1,5 +1,4 @@
 -- In each branch the test's lemma computes the rule.
-use borrow.Author.Rules.{rules}
 use borrow.Author.Tests.{lt-ltb, le-ltb}
 use Rattle.runner.specs.Steps.{is_going}
 use Rattle.runner.proofs.events.is_going.Goals as goal

@@ -1,5 +1,4 @@
 -- Past the end the rule gives 0.
-use borrow.Author.Rules.{rules}
 use mathlib.Core.Path.{sym}
 use lib.ListN.{get_or-eq_default}
 use Rattle.runner.proofs.events.number_at.Goals as goal

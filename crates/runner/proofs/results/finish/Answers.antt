@@ -1,5 +1,4 @@
 -- The logs, the hops and the rest are written one after the other.
-use borrow.Author.Rules.{rules}
 use mathlib.Core.Path.{refl}
 use mathlib.Core.List.{append_assoc}
 use Rattle.text.proofs.Written.{written_append}

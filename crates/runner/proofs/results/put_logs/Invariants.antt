@@ -1,17 +1,14 @@
 -- The loop's invariant: with the logs from `u` on written from `next` on, all are written from `at` on; the list keeps its length.
-use borrow.Author.Rules.{rules}
 use mathlib.Core.Path.{◌≡◌}
 use mathlib.Core.List.{List}
 use Prim.Native.Nat.{ℕ, ◌-◌, ◌≤◌}
-use native.Mathlib.Nat.{le_trans}
 use lib.ListN.{length, drop}
 use Rattle.benchfile.specs.File.{ended}
-use Rattle.line_writer.proofs.Texts.{Remains, remains_next, remains_none}
+use Rattle.line_writer.proofs.Texts.{Remains}
 use Rattle.bench_promises.specs.declared.Totals.{Totals}
 use Rattle.bench_promises.specs.State.{bench}
 use Rattle.runner.specs.Steps.{HandsBack}
 use Rattle.runner.specs.Printed.{log_lines}
-use Rattle.runner.proofs.LogTexts.{logs-next, logs-end}
 use Rattle.runner.proofs.results.put_logs.Given as goal
 
 abbrev pub invariant-loop-u : goal.invariant-loop-u

@@ -1,7 +1,5 @@
 -- What log hands back is the unit's log, and its line is printed.
-use borrow.Author.Rules.{rules}
 use Rattle.runner.proofs.results.put_unit.Goals as goal
 
 pub returns : goal.returns
-returns c = λ t ms ps logs back. rw (← back _ _ (c.log-log.ensures.0 t ms ps))
-    c.put_log.ensures
+returns c = λ t ms ps logs back. rw (← back _ _ (c.log-log.ensures.promise t ms ps)) c.put_log.ensures

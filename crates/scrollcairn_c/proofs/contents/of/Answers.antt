@@ -1,5 +1,4 @@
 -- Each field is computed.
-use borrow.Author.Rules.{rules}
 use mathlib.Core.Path.{refl}
 use Rattle.scrollcairn_c.specs.Exported.{content_from}
 use Rattle.scrollcairn_c.proofs.contents.of.Goals as goal

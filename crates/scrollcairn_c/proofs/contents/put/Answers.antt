@@ -1,8 +1,5 @@
 -- Each array is stored whole.
-use mathlib.Core.Path.{refl, ap}
-use mathlib.Core.List.{List, [], ◌∷◌}
-use Prim.Native.Nat.{ℕ}
-use borrow.Author.Rules.{rules}
+use mathlib.Core.Path.{refl}
 use Rattle.scrollcairn_c.specs.Exported.{counts_of}
 use Rattle.scrollcairn_c.proofs.contents.put.Goals as goal
 

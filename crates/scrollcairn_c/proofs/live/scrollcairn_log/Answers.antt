@@ -2,7 +2,6 @@
 use mathlib.Core.Path.{sym, ◌∙◌}
 use lib.ListN.{length, take}
 use lib.Seq.{length-take-le}
-use borrow.Author.Rules.{rules}
 use Rattle.sets.proofs.Bools.{clash}
 use Rattle.scrollcairn_c.specs.Live.{bench_in}
 use Rattle.scrollcairn_c.proofs.Whole.{log-long}
@@ -16,21 +15,20 @@ returns-then-is_log_short c =
 
 pub slice_bounds-log_part-end : goal.slice_bounds-log_part-end
 slice_bounds-log_part-end c =
-    let test = c in let a = c.args in
+    let a = c.args in
     sym (length-take-le 140 a.tables.now (log-long (length a.tables.now) (length a.gauges.now) (length a.book.now)
-    (sym test.is_log_short.ensures ∙ test.if-is_log_short.false)).0)
+    (sym c.is_log_short.ensures ∙ c.if-is_log_short.false)).0)
 
 pub slice_bounds-log_part-end-2 : goal.slice_bounds-log_part-end-2
 slice_bounds-log_part-end-2 c =
-    let test = c in let a = c.args in
+    let a = c.args in
     sym (length-take-le 32 a.gauges.now (log-long (length a.tables.now) (length a.gauges.now) (length a.book.now)
-    (sym test.is_log_short.ensures ∙ test.if-is_log_short.false)).1)
+    (sym c.is_log_short.ensures ∙ c.if-is_log_short.false)).1)
 
 pub returns : goal.returns
 unfolding bench_in
 returns c =
-    let test = c in
     record {
-      short = λ t. absurd (clash t (sym test.is_log_short.ensures ∙ test.if-is_log_short.false));
+      short = λ t. absurd (clash t (sym c.is_log_short.ensures ∙ c.if-is_log_short.false));
       promise = λ t ms ps. c.log_part.ensures t (take 600 ms) (take 2 ps);
     }

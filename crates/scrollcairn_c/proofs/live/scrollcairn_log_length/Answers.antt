@@ -2,7 +2,6 @@
 use mathlib.Core.Path.{sym, subst, ◌∙◌}
 use lib.ListN.{length, take}
 use lib.Seq.{length-take-le}
-use borrow.Author.Rules.{rules}
 use Rattle.sets.proofs.Bools.{clash}
 use Rattle.c_answers.proofs.Threes.{reply-is}
 use Rattle.scrollcairn_c.specs.Live.{bench_in, LengthExported}
@@ -20,23 +19,22 @@ returns-then-is_log_short c =
 
 pub slice_bounds-log_length-end : goal.slice_bounds-log_length-end
 slice_bounds-log_length-end c =
-    let test = c in let a = c.args in
+    let a = c.args in
     sym (length-take-le 140 a.tables.now (log-long (length a.tables.now) (length a.gauges.now) (length a.book.now)
-    (sym test.is_log_short.ensures ∙ test.if-is_log_short.false)).0)
+    (sym c.is_log_short.ensures ∙ c.if-is_log_short.false)).0)
 
 pub slice_bounds-log_length-end-2 : goal.slice_bounds-log_length-end-2
 slice_bounds-log_length-end-2 c =
-    let test = c in let a = c.args in
+    let a = c.args in
     sym (length-take-le 32 a.gauges.now (log-long (length a.tables.now) (length a.gauges.now) (length a.book.now)
-    (sym test.is_log_short.ensures ∙ test.if-is_log_short.false)).1)
+    (sym c.is_log_short.ensures ∙ c.if-is_log_short.false)).1)
 
 pub returns : goal.returns
 unfolding bench_in
 returns c =
-    let test = c in
     record {
       said = c.log_length-reply.result;
       answers = reply-is c.of_length-2.result _ c.of_length-2.ensures;
-      short = λ t. absurd (clash t (sym test.is_log_short.ensures ∙ test.if-is_log_short.false));
+      short = λ t. absurd (clash t (sym c.is_log_short.ensures ∙ c.if-is_log_short.false));
       promise = λ t ms ps. c.log_length-reply.ensures t (take 600 ms) (take 2 ps);
     }

@@ -1,10 +1,7 @@
 -- The loop fills the table place by place.
-use mathlib.Core.Path.{refl}
 use Prim.Native.Nat.{◌-◌}
 use lib.ListN.{get_or}
-use borrow.Author.Rules.{rules}
-use Rattle.layout.proofs.Loops.{Filled, filled_none, filled-turn, filled-all}
-use Rattle.scrollcairn_c.specs.Opening.{drawing}
+use Rattle.layout.proofs.Loops.{Filled}
 use Rattle.scrollcairn_c.proofs.opening.drawing_of.Given as goal
 
 abbrev pub invariant-loop-i : goal.invariant-loop-i

@@ -1,7 +1,6 @@
 -- A place past the list reads as 0.
 use mathlib.Core.Path.{sym}
 use lib.ListN.{get_or-eq_default}
-use borrow.Author.Rules.{rules}
 use Rattle.scrollcairn_c.proofs.opening.group_at.Goals as goal
 
 pub returns : goal.returns

@@ -1,8 +1,5 @@
 use mathlib.Core.Path.{refl}
-use Prim.Native.Nat.{◌-◌}
-use lib.ListN.{get_or}
-use borrow.Author.Rules.{rules}
-use Rattle.layout.proofs.Loops.{Filled, filled_none, filled-turn, filled-all}
+use Rattle.layout.proofs.Loops.{filled_none, filled-turn, filled-all}
 use Rattle.scrollcairn_c.specs.Opening.{group_table}
 use Rattle.scrollcairn_c.proofs.opening.group_table.Goals as goal
 

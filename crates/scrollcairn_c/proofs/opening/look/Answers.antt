@@ -1,5 +1,4 @@
 -- The functions called compute the parts of the rule.
-use borrow.Author.Rules.{rules}
 use mathlib.Core.Path.{ap, ◌∙◌}
 use mathlib.Core.Bool.{cond}
 use mathlib.Core.List.{List, [], ◌∷◌}
@@ -13,12 +12,12 @@ use Rattle.scrollcairn_c.proofs.opening.look.Goals as goal
 pub returns : goal.returns
 unfolding looked_at
 returns c =
-    let looked = c in let table = looked.group_table-table in let drawn = looked.drawing_of-drawn in
-    let a = looked.args in
+    let table = c.group_table-table in let drawn = c.drawing_of-drawn in
+    let a = c.args in
     λ i. record {
       groups = table.ensures i;
-      parents = (looked.check-checked.ensures.1 ∙ (λ j. check_parents a.units a.count (table.ensures j) (drawn.ensures j))) i;
+      parents = (c.check-checked.ensures.answered ∙ (λ j. check_parents a.units a.count (table.ensures j) (drawn.ensures j))) i;
       reply = reply-is c.reply_of-reply.result _ (c.reply_of-reply.ensures
           ∙ ap (λ (l : List ℕ). cond a.short (1 ∷ 0 ∷ 0 ∷ []) (open_numbers (low_bits l)))
-          (looked.check-checked.ensures.0 ∙ (λ j. check_refusal a.units a.count (table.ensures j) (drawn.ensures j)))) i;
+          (c.check-checked.ensures.refused ∙ (λ j. check_refusal a.units a.count (table.ensures j) (drawn.ensures j)))) i;
     }

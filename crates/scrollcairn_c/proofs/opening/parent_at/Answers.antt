@@ -2,7 +2,6 @@
 use mathlib.Core.Path.{sym}
 use lib.ListN.{get_or-eq_default}
 use Rattle.layout.proofs.Loops.{get_d_any}
-use borrow.Author.Rules.{rules}
 use Rattle.scrollcairn_c.proofs.opening.parent_at.Goals as goal
 
 pub returns-then-i-parents : goal.returns-then-i-parents

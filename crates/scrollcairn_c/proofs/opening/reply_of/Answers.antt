@@ -1,5 +1,4 @@
 -- The test computes the rule.
-use borrow.Author.Rules.{rules}
 use Rattle.c_answers.specs.Replies.{three_of}
 use Rattle.scrollcairn_c.proofs.opening.reply_of.Goals as goal
 

@@ -1,6 +1,5 @@
 -- A list without room stays; else both arrays are put in their places.
 use mathlib.Core.Path.{refl}
-use borrow.Author.Rules.{rules}
 use borrow.Author.Tests.{lt-ltb, le-ltb}
 use Rattle.scrollcairn_c.specs.Opening.{stored_pairs}
 use Rattle.scrollcairn_c.proofs.opening.store_pairs.Goals as goal

@@ -1,5 +1,4 @@
 -- The reply is told by its three numbers.
-use borrow.Author.Rules.{rules}
 use Rattle.c_answers.proofs.Threes.{reply-is}
 use Rattle.scrollcairn_c.specs.Live.{step_of}
 use Rattle.scrollcairn_c.proofs.steps.after_send.Goals as goal

@@ -1,5 +1,4 @@
 -- The tests are the rule's.
-use borrow.Author.Rules.{rules}
 use borrow.Author.Tests.{lt-ltb, le-ltb}
 use Rattle.scrollcairn_c.specs.Live.{arrive_short}
 use Rattle.scrollcairn_c.proofs.steps.is_arrive_short.Goals as goal

@@ -13,7 +13,8 @@ returns-then-messages-lt-SIZE c = rw (le-ltb _ _ c.if-tables-lt-SIZE.false, lt-l
 
 pub returns-then-pairs-lt-SIZE : goal.returns-then-pairs-lt-SIZE
 unfolding send_short
-returns-then-pairs-lt-SIZE c = rw (le-ltb _ _ c.if-tables-lt-SIZE.false, le-ltb _ _ c.if-messages-lt-SIZE.false, lt-ltb _ _ c.if-pairs-lt-SIZE.true)
+returns-then-pairs-lt-SIZE c =
+    rw (le-ltb _ _ c.if-tables-lt-SIZE.false, le-ltb _ _ c.if-messages-lt-SIZE.false, lt-ltb _ _ c.if-pairs-lt-SIZE.true)
 
 pub returns : goal.returns
 unfolding send_short

@@ -17,7 +17,8 @@ unfoldable pub lists_of : Bench → BenchLists
 lists_of b = record { totals = b.totals; tables = b.tables; messages = b.messages; pairs = b.pairs.grids; gauges = b.gauges }
 
 -- the bench with other totals, messages, counts and gauges
-unfoldable pub with_lists : Bench → Totals → (messages : List ℕ) → (pairs : List (List (List ℕ))) → (gauges : List ℕ) → Bench
+unfoldable pub with_lists : Bench → Totals → (messages : List ℕ) → (pairs : List (List (List ℕ))) → (gauges : List ℕ)
+    → Bench
 with_lists b t ms ps gs = record { totals = t; tables = b.tables; messages = ms; pairs = record { grids = ps }; gauges = gs }
 
 -- what the calls answer, by what those on lists answered and left

@@ -2,7 +2,8 @@
 ghost use Rattle.std.specs.Prelude.{◌≡◌, not, ◌-◌};
 ghost use Rattle.bench_store.specs.Values.{count_in};
 ghost use Rattle.bench_promises.specs.Machine.{arrive_refusal, is_closed, closed_reply, is_next, begun as begunAt, delivery_to, log_copy};
-ghost use Rattle.bench_promises.specs.Machine.{outgoing as outgoingOf, longer_by, after_copy, take_arrival, take_pairs, take_hops, take_book};
+ghost use Rattle.bench_promises.specs.Machine.{outgoing as outgoingOf, longer_by, after_copy, take_arrival, take_pairs, take_hops};
+ghost use Rattle.bench_promises.specs.Machine.{take_book};
 ghost use Rattle.bench_promises.specs.Machine.{search_from, search_end, moved_to, next_arrival, is_going as goes, settled_from};
 ghost use Rattle.bench_promises.specs.Machine.{finished_totals, finished_pairs, finished_gauges, finished_reply};
 ghost use Rattle.bench_promises.specs.State.{bench};

@@ -104,7 +104,8 @@ event-at (suc k) [] j h b = absurd (omega arith)
 event-at (suc k) (x ∷ []) j h b = absurd (omega arith)
 event-at (suc k) (x ∷ y ∷ []) j h b = absurd (omega arith)
 event-at (suc k) (x ∷ y ∷ z ∷ ns) zero h b = refl
-event-at (suc k) (x ∷ y ∷ z ∷ ns) (suc j) h b = event-at k ns j (omega arith) (le_of_suc-le-suc b) ∙ sym (behind event_of x y z ns j)
+event-at (suc k) (x ∷ y ∷ z ∷ ns) (suc j) h b = event-at k ns j (omega arith) (le_of_suc-le-suc b)
+    ∙ sym (behind event_of x y z ns j)
 
 -- the numbers of k events read out of good numbers are these
 numbers-from : (k : ℕ) (ns : List ℕ) → 3 * k ≤ length ns → ((j : ℕ) → j < k → three GoodNumbers ns j)
@@ -131,7 +132,8 @@ module _ (n d : ℕ) where
   table-front : (l : List ℕ) → length l ≤ n → take (length l) (tabulate n (λ i. get_or l i d)) ≡ l
   table-front l h =
       let t = tabulate n (λ i. get_or l i d) in
-      let e : length (take (length l) t) ≡ length l = length-take-le (length l) t (omega (arith, length-tabulate n (λ i. get_or l i d))) in
+      let e : length (take (length l) t) ≡ length l = length-take-le (length l) t (omega (arith, length-tabulate n (λ i. get_or l i d)))
+      in
       ext_get_or d (take (length l) t) l e (λ i b. get_or-take (length l) t i d (omega arith) ∙ table_at l i h)
 
   -- n entries with d from k on are the table of the first k

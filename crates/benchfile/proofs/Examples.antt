@@ -6,7 +6,8 @@ use Rattle.text.specs.Text.{digit, number, decimal_within, decimal, in_front, sp
 use Rattle.sets.specs.Sets.{member, including, single, union}
 use Rattle.lines.specs.Lines.{refuse, units_key, groups_key, group_key, parents_key, send_key, arrive_key, build_word, root_word, commas}
 use Rattle.lines.specs.Lines.{numbers_in, count_in, count_fault, units_fault, groups_fault, count_line, rises_from, group_in, group_fault}
-use Rattle.lines.specs.Lines.{members_from, group_line, Drawn, entry, entries_in, parent_of, parents_in, parents_fault, parent_text, parents_line}
+use Rattle.lines.specs.Lines.{members_from, group_line, Drawn, entry, entries_in, parent_of, parents_in, parents_fault, parent_text}
+use Rattle.lines.specs.Lines.{parents_line}
 use Rattle.lines.specs.Lines.{Send, Arrive, bad_send, event_fault, event_in, event_line}
 use Rattle.benchfile.specs.File.{File, Refused, Good, next, step, finish, steps, read_file, lines_of, ended, text_of}
 
@@ -104,7 +105,8 @@ pub examples : Examples
 unfolding digit number decimal_within decimal in_front split join starts_with after is_word some member including single union refuse
     units_key groups_key group_key parents_key send_key arrive_key build_word root_word commas numbers_in count_in count_fault
     units_fault groups_fault count_line
-    rises_from group_in group_fault members_from group_line entry entries_in parent_of parents_in parents_fault parent_text parents_line bad_send
+    rises_from group_in group_fault members_from group_line entry entries_in parent_of parents_in parents_fault parent_text parents_line
+    bad_send
     event_fault event_in event_line next step finish steps read_file lines_of ended text_of
 examples = record {
   read = refl;

@@ -11,7 +11,8 @@ use lib.Dec.{eqb}
 use Rattle.text.specs.Text.{split}
 use Rattle.text.specs.Writing.{place_of}
 use Rattle.text.proofs.Pieces.{place_le, split-place, split-none, split-some}
-use Rattle.lines.specs.Lines.{count_in, count_fault, parents_fault, parents_in, is_build, parents_table, event_fault, event_in, event_numbers}
+use Rattle.lines.specs.Lines.{count_in, count_fault, parents_fault, parents_in, is_build, parents_table, event_fault, event_in}
+use Rattle.lines.specs.Lines.{event_numbers}
 use Rattle.lines.specs.Fields.{first_line, fault_at, no_field, field_at, no_drawing, drawing_at, no_event, event_at}
 use Rattle.lines.specs.declared.fields.Field.{Field}
 use Rattle.lines.specs.declared.entries.Drawing.{Drawing}

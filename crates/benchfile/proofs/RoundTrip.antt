@@ -12,7 +12,8 @@ use lib.Dec.{ltb}
 use borrow.Author.Tests.{ltb-false, le-ltb}
 use Rattle.text.specs.Text.{split, join}
 use Rattle.text.proofs.Pieces.{AllWithout, none, more, split_append, join-split}
-use Rattle.lines.specs.Lines.{refuse, units_key, groups_key, count_in, units_fault, groups_fault, group_fault, group_in, parents_fault, parents_in}
+use Rattle.lines.specs.Lines.{refuse, units_key, groups_key, count_in, units_fault, groups_fault, group_fault, group_in, parents_fault}
+use Rattle.lines.specs.Lines.{parents_in}
 use Rattle.lines.specs.Lines.{event_fault, event_in, count_line, group_line, parents_line, event_line, Event, Arrive}
 use Rattle.lines.specs.Good.{GoodGroup, GoodEvent}
 use Rattle.lines.proofs.Values.{map-without, texts_without}

@@ -47,22 +47,23 @@ module _ {file events left : List ℕ} {a : ReadAnswer} {F : File} (p : ReadProm
 
 -- `write` where the lists are long enough and the file not too long
 module _ {c : Content} {events out text : List ℕ} {r : WriteReply} {F : File} (p : WritePromise c events out r text)
-    (e : file_of c (take 9000 events) ≡ F) (h : 9000 ≤ length events) (l : 32768 ≤ length out) (m : length (text_of F) ≤ 32768) where
-  long-enough : write_short events out ≡ false
-  unfolding write_short
-  long-enough = ap₂ ◌||◌ (le-ltb (length events) 9000 h) (le-ltb (length out) 32768 l)
+    (e : file_of c (take 9000 events) ≡ F) (h : 9000 ≤ length events) (l : 32768 ≤ length out) (m : length (text_of F) ≤ 32768)
+  where
+    long-enough : write_short events out ≡ false
+    unfolding write_short
+    long-enough = ap₂ ◌||◌ (le-ltb (length events) 9000 h) (le-ltb (length out) 32768 l)
 
-  all-written : written c events ≡ text_of F
-  unfolding written
-  all-written = ap (λ (G : File). take 32768 (text_of G)) e ∙ take_all 32768 (text_of F) m
+    all-written : written c events ≡ text_of F
+    unfolding written
+    all-written = ap (λ (G : File). take 32768 (text_of G)) e ∙ take_all 32768 (text_of F) m
 
-  good_wrote : write_answer r ≡ WroteBytes (length (text_of F))
-  unfolding write_says
-  good_wrote = p.answers ∙ ap₂ write_says long-enough all-written
+    good_wrote : write_answer r ≡ WroteBytes (length (text_of F))
+    unfolding write_says
+    good_wrote = p.answers ∙ ap₂ write_says long-enough all-written
 
-  good-text : text ≡ text_of F ++ drop (length (text_of F)) out
-  unfolding write_leaves
-  good-text = p.leaves ∙ ap₂ (λ (b : Bool) (t : List ℕ). write_leaves b t out) long-enough all-written
+    good-text : text ≡ text_of F ++ drop (length (text_of F)) out
+    unfolding write_leaves
+    good-text = p.leaves ∙ ap₂ (λ (b : Bool) (t : List ℕ). write_leaves b t out) long-enough all-written
 
 -- the content of a good file, with what `read` leaves: well-formed, and it says that file
 module _ {file events left : List ℕ} {a : ReadAnswer} {F : File} (p : ReadPromise file events a left)

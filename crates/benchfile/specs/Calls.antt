@@ -1,5 +1,6 @@
 -- Rules of the calls `read` and `write`: what they answer, and what they leave in the lent lists, for every input. Definitions only.
-use Rattle.std.specs.Prelude.{ℕ, zero, suc, ◌+◌, ◌*◌, ◌≡◌, Bool, true, false, ◌||◌, List, [], ◌∷◌, ◌++◌, length, get_or, take, drop, ltb}
+use Rattle.std.specs.Prelude.{ℕ, zero, suc, ◌+◌, ◌*◌, ◌≡◌, Bool, true, false, ◌||◌, List, [], ◌∷◌, ◌++◌}
+use Rattle.std.specs.Prelude.{length, get_or, take, drop, ltb}
 use Rattle.layout.specs.Tables.{tabulate}
 use Rattle.lines.specs.Lines.{Event, event_numbers, event_of, is_build, parents_table, parents_said}
 use Rattle.benchfile.specs.File.{File, Outcome, Refused, Good, read_file, text_of}

@@ -33,4 +33,5 @@ pub record WellFormed (c : Content) (events : List ℕ) : Type 0 where
   pub undrawn : (u : ℕ) → (c.build ≡ true) ⊎ (c.units ≤ u) → get_or c.parents u 255 ≡ 255
   pub total : c.events ≤ 3000
   pub lent : 9000 ≤ length events
-  pub event : (k : ℕ) → k < c.events → GoodNumbers (get_or events (3 * k) 0) (get_or events (3 * k + 1) 0) (get_or events (3 * k + 2) 0)
+  pub event : (k : ℕ) → k < c.events → GoodNumbers (get_or events (3 * k) 0) (get_or events (3 * k + 1) 0)
+      (get_or events (3 * k + 2) 0)

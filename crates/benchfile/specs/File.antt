@@ -1,7 +1,8 @@
 -- Rules of the bench file (document 01, "The bench file" and "Turned away, in checking order", 1 to 9). Definitions only.
 use Rattle.std.specs.Prelude.{ℕ, zero, suc, List, [], ◌∷◌, ◌++◌, map, length, ltb}
 use Rattle.text.specs.Text.{split}
-use Rattle.lines.specs.Lines.{refuse, units_key, groups_key, count_in, units_fault, groups_fault, group_fault, group_in, parents_fault, parents_in}
+use Rattle.lines.specs.Lines.{refuse, units_key, groups_key, count_in, units_fault, groups_fault, group_fault, group_in, parents_fault}
+use Rattle.lines.specs.Lines.{parents_in}
 use Rattle.lines.specs.Lines.{event_fault, event_in, count_line, group_line, parents_line, event_line, Parents, Event}
 
 -- what a good file says: how many units; the groups, each a set of units; `build` or the parents; the events

@@ -4,7 +4,9 @@
 #![tactic(auto)]
 
 use benchfile::{ReadReply, WriteReply};
-use libc::{STDIN_FILENO, STDOUT_FILENO};
+use std::env::Env;
+use std::io;
+use std::io::Read;
 
 // How many numbers a reply says were written.
 fn numbers(reply: ReadReply) -> u64 {
@@ -58,39 +60,40 @@ fn writes(file: &[u8], list: &mut [u32], out: &mut [u8], times: usize) -> u64 {
     sum
 }
 
-fn print(name: &[u8], sum: u64) {
-    io::write_all(STDOUT_FILENO, name);
-    io::print_decimal(STDOUT_FILENO, sum);
-    io::write_all(STDOUT_FILENO, b"\n");
+fn print(rt: &impl Print, name: &str, sum: u64) -> io::Result<()> {
+    println!(rt; "{name} {sum}")
 }
 
-fn run_reads(file: &[u8]) {
+fn run_reads(rt: &impl Print, file: &[u8]) -> io::Result<()> {
     let mut list = [0u32; 9000];
-    print(b"read ", reads(file, &mut list, 1000));
+    print(rt, "read", reads(file, &mut list, 1000))
 }
 
-fn run_writes(file: &[u8]) {
+fn run_writes(rt: &impl Print, file: &[u8]) -> io::Result<()> {
     let mut list = [0u32; 9000];
     let mut out = [0u8; 32768];
-    print(b"write ", writes(file, &mut list, &mut out, 1000));
+    print(rt, "write", writes(file, &mut list, &mut out, 1000))
 }
 
 // Runs what the word names.
-fn run_named(word: &[u8], file: &[u8]) {
-    if check::same(word, b"read") {
-        run_reads(file);
-    } else if check::same(word, b"write") {
-        run_writes(file);
-    } else {
-        run_reads(file);
-        run_writes(file);
+fn run_named(rt: &impl Print, word: &[u8], file: &[u8]) -> io::Result<()> {
+    match word {
+        b"read" => run_reads(rt, file),
+        b"write" => run_writes(rt, file),
+        _ => {
+            run_reads(rt, file)?;
+            run_writes(rt, file)
+        }
     }
 }
 
-fn main() {
+fn main(rt: HostRuntime) -> io::Result<()> {
     let mut word = [0u8; 16];
-    let length = os::arg(1, &mut word);
+    // a longer word names neither
+    let length = rt.arg(1, &mut word).unwrap_or(0);
     let mut file = [0u8; 32768];
-    let size = io::read_full(STDIN_FILENO, &mut file);
-    run_named(&word[..length], &file[..size]);
+    // `copy` says nothing of how much came, hence `min`
+    let read = io::copy(&mut rt.stdin().take(32768), &mut file.as_mut_slice())?;
+    let size = read.min(32768) as usize;
+    run_named(&rt, &word[..length], &file[..size])
 }

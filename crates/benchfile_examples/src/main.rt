@@ -3,40 +3,29 @@
 #![tactic(auto)]
 
 use benchfile::{Content, ReadAnswer, ReadReply, WriteReply};
-use libc::STDOUT_FILENO;
+use std::io;
 use text::writing::put_text;
 
-fn print(text: &[u8]) {
-    io::write_all(STDOUT_FILENO, text);
+fn print_two(rt: &impl Print, word: &str, a: usize, b: usize) -> io::Result<()> {
+    print!(rt; "{word}{a},{b}")
 }
 
-fn print_number(n: usize) {
-    io::print_decimal(STDOUT_FILENO, n as u64);
+fn refused(rt: &impl Print, number: usize, line: usize) -> io::Result<()> {
+    print_two(rt, " refused=", number, line)
 }
 
-fn print_two(word: &[u8], a: usize, b: usize) {
-    print(word);
-    print_number(a);
-    print(b",");
-    print_number(b);
-}
-
-fn refused(number: usize, line: usize) {
-    print_two(b" refused=", number, line);
-}
-
-fn print_reply(reply: ReadReply) {
+fn print_reply(rt: &impl Print, reply: ReadReply) -> io::Result<()> {
     match reply {
-        ReadReply::Read(numbers, line) => print_two(b" numbers,parents=", numbers, line),
-        ReadReply::ListTooShort => print(b" refused=1"),
-        ReadReply::FileTooLong => refused(2, 0),
-        ReadReply::NoLine(line) => refused(3, line),
-        ReadReply::BadValue(line) => refused(4, line),
-        ReadReply::BadCount(line) => refused(5, line),
-        ReadReply::NoSuchUnit(line) => refused(6, line),
-        ReadReply::NotRising(line) => refused(7, line),
-        ReadReply::WrongLength(line) => refused(8, line),
-        ReadReply::TooManyEvents(line) => refused(9, line),
+        ReadReply::Read(numbers, line) => print_two(rt, " numbers,parents=", numbers, line),
+        ReadReply::ListTooShort => rt.print(" refused=1"),
+        ReadReply::FileTooLong => refused(rt, 2, 0),
+        ReadReply::NoLine(line) => refused(rt, 3, line),
+        ReadReply::BadValue(line) => refused(rt, 4, line),
+        ReadReply::BadCount(line) => refused(rt, 5, line),
+        ReadReply::NoSuchUnit(line) => refused(rt, 6, line),
+        ReadReply::NotRising(line) => refused(rt, 7, line),
+        ReadReply::WrongLength(line) => refused(rt, 8, line),
+        ReadReply::TooManyEvents(line) => refused(rt, 9, line),
     }
 }
 
@@ -57,7 +46,7 @@ fn holds(out: &[u8], file: &[u8]) -> bool {
     if out.len() < file.len() {
         return false;
     }
-    if !check::same(&out[..file.len()], file) {
+    if &out[..file.len()] != file {
         return false;
     }
     let mut at = file.len();
@@ -71,13 +60,12 @@ fn holds(out: &[u8], file: &[u8]) -> bool {
 }
 
 // How many bytes were written, and whether they are the file's.
-fn print_same(bytes: usize, same: bool) {
-    print(b" bytes=");
-    print_number(bytes);
+fn print_same(rt: &impl Print, bytes: usize, same: bool) -> io::Result<()> {
+    print!(rt; " bytes={bytes}")?;
     if same {
-        print(b" the same");
+        rt.print(" the same")
     } else {
-        print(b" DIFFERENT");
+        rt.print(" DIFFERENT")
     }
 }
 
@@ -90,12 +78,18 @@ fn write_part(content: Content, list: &[u32], out: &mut [u8], bytes: usize) -> W
 }
 
 // Writes a content to a list of a length, and says whether the file came back.
-fn print_written(content: Content, list: &[u32], file: &[u8], bytes: usize) {
+fn print_written(
+    rt: &impl Print,
+    content: Content,
+    list: &[u32],
+    file: &[u8],
+    bytes: usize,
+) -> io::Result<()> {
     let mut out = [0u8; 40000];
     let reply = write_part(content, list, &mut out, bytes);
     match reply {
-        WriteReply::Wrote(count) => print_same(count, holds(&out, file)),
-        WriteReply::ListTooShort => print(b" write refused=1"),
+        WriteReply::Wrote(count) => print_same(rt, count, holds(&out, file)),
+        WriteReply::ListTooShort => rt.print(" write refused=1"),
     }
 }
 
@@ -108,144 +102,177 @@ fn read_part(file: &[u8], list: &mut [u32], numbers: usize) -> ReadAnswer {
 }
 
 // One line: the name, what `read` answers with a list of a length, and what `write` gives, or whether a refused call changed the list.
-fn tried(name: &[u8], file: &[u8], numbers: usize, bytes: usize) {
+fn tried(rt: &impl Print, name: &str, file: &[u8], numbers: usize, bytes: usize) -> io::Result<()> {
     let mut list = [7u32; 9100];
     let answer = read_part(file, &mut list, numbers);
     let reply = answer.reply;
     let content = answer.content;
-    print(name);
-    print_reply(reply);
+    rt.print(name)?;
+    print_reply(rt, reply)?;
     if let ReadReply::Read(_, _) = reply {
-        print_written(content, &list, file, bytes);
+        print_written(rt, content, &list, file, bytes)?;
     } else if changed(&list) {
-        print(b" CHANGED");
+        rt.print(" CHANGED")?;
     }
-    print(b"\n");
+    rt.print("\n")
 }
 
-fn case(name: &[u8], file: &[u8]) {
-    tried(name, file, 9000, 32768);
+fn case(rt: &impl Print, name: &str, file: &[u8]) -> io::Result<()> {
+    tried(rt, name, file, 9000, 32768)
 }
 
 // A file with lists that are longer than needed, or too short.
-fn lent(file: &[u8]) {
-    tried(b"9,100 numbers, 40,000 bytes lent", file, 9100, 40000);
-    tried(b"8,999 numbers lent", file, 8999, 32768);
-    tried(b"32,767 bytes lent", file, 9000, 32767);
+fn lent(rt: &impl Print, file: &[u8]) -> io::Result<()> {
+    tried(rt, "9,100 numbers, 40,000 bytes lent", file, 9100, 40000)?;
+    tried(rt, "8,999 numbers lent", file, 8999, 32768)?;
+    tried(rt, "32,767 bytes lent", file, 9000, 32767)
 }
 
 // Files that are read.
-fn good() {
+fn good(rt: &impl Print) -> io::Result<()> {
     let p8 = b"units=4\ngroups=4\ngroup=0,3\ngroup=0,1\ngroup=2,3\ngroup=1,2\n\
           parents=-,2,0,2\nsend=3,0,500\nsend=1,2,600\narrive=0\narrive=1\narrive=2\narrive=4\narrive=3\n";
-    case(b"P8", p8);
-    case(b"P10", b"units=1\ngroups=0\nparents=-\n");
-    case(b"build", b"units=3\ngroups=1\ngroup=0,2\nparents=build\n");
+    case(rt, "P8", p8)?;
+    case(rt, "P10", b"units=1\ngroups=0\nparents=-\n")?;
     case(
-        b"largest numbers",
+        rt,
+        "build",
+        b"units=3\ngroups=1\ngroup=0,2\nparents=build\n",
+    )?;
+    case(
+        rt,
+        "largest numbers",
         b"units=32\ngroups=1\ngroup=31\nparents=build\nsend=65534,65535,4294967295\narrive=65535\n",
-    );
-    lent(p8);
+    )?;
+    lent(rt, p8)
 }
 
 // Lines that are missing or lack their LF: 3.
-fn missing_lines() {
-    case(b"empty file", b"");
-    case(b"no LF", b"units=1");
-    case(b"groups missing", b"units=1\n");
-    case(b"parents missing", b"units=1\ngroups=0\n");
+fn missing_lines(rt: &impl Print) -> io::Result<()> {
+    case(rt, "empty file", b"")?;
+    case(rt, "no LF", b"units=1")?;
+    case(rt, "groups missing", b"units=1\n")?;
+    case(rt, "parents missing", b"units=1\ngroups=0\n")?;
     case(
-        b"bytes after the last LF",
+        rt,
+        "bytes after the last LF",
         b"units=1\ngroups=0\nparents=-\narrive=0",
-    );
+    )
 }
 
 // Lines with another key: 3.
-fn other_keys() {
-    case(b"doubled last LF", b"units=1\ngroups=0\nparents=-\n\n");
-    case(b"space in a key", b"units =1\n");
+fn other_keys(rt: &impl Print) -> io::Result<()> {
+    case(rt, "doubled last LF", b"units=1\ngroups=0\nparents=-\n\n")?;
+    case(rt, "space in a key", b"units =1\n")?;
     case(
-        b"groups where group is due",
+        rt,
+        "groups where group is due",
         b"units=1\ngroups=1\ngroups=0\n",
-    );
+    )?;
     case(
-        b"group too many",
+        rt,
+        "group too many",
         b"units=1\ngroups=0\ngroup=0\nparents=-\n",
-    );
-    case(b"another key", b"units=1\ngroups=0\nparents=-\narrived=0\n");
+    )?;
+    case(
+        rt,
+        "another key",
+        b"units=1\ngroups=0\nparents=-\narrived=0\n",
+    )
 }
 
 // Values that are not written as told: 4.
-fn bad_values() {
-    case(b"CR LF", b"units=1\r\ngroups=0\r\nparents=-\r\n");
-    case(b"leading zero", b"units=01\n");
-    case(b"no value", b"units=\n");
-    case(b"65,536", b"units=65536\n");
+fn bad_values(rt: &impl Print) -> io::Result<()> {
+    case(rt, "CR LF", b"units=1\r\ngroups=0\r\nparents=-\r\n")?;
+    case(rt, "leading zero", b"units=01\n")?;
+    case(rt, "no value", b"units=\n")?;
+    case(rt, "65,536", b"units=65536\n")
 }
 
 // Lists that are not written as told: 4.
-fn bad_lists() {
-    case(b"empty entry", b"units=2\ngroups=1\ngroup=0,,1\n");
-    case(b"comma at the end", b"units=2\ngroups=1\ngroup=0,1,\n");
-    case(b"builds", b"units=1\ngroups=0\nparents=builds\n");
-    case(b"build in a list", b"units=2\ngroups=0\nparents=-,build\n");
+fn bad_lists(rt: &impl Print) -> io::Result<()> {
+    case(rt, "empty entry", b"units=2\ngroups=1\ngroup=0,,1\n")?;
+    case(rt, "comma at the end", b"units=2\ngroups=1\ngroup=0,1,\n")?;
+    case(rt, "builds", b"units=1\ngroups=0\nparents=builds\n")?;
+    case(
+        rt,
+        "build in a list",
+        b"units=2\ngroups=0\nparents=-,build\n",
+    )
 }
 
 // Events that are not written as told: 4.
-fn bad_events() {
+fn bad_events(rt: &impl Print) -> io::Result<()> {
     case(
-        b"source 65,535",
+        rt,
+        "source 65,535",
         b"units=1\ngroups=0\nparents=-\nsend=65535,0,0\n",
-    );
+    )?;
     case(
-        b"send of two numbers",
+        rt,
+        "send of two numbers",
         b"units=1\ngroups=0\nparents=-\nsend=0,0\n",
-    );
+    )?;
     case(
-        b"send of four numbers",
+        rt,
+        "send of four numbers",
         b"units=1\ngroups=0\nparents=-\nsend=0,0,0,0\n",
-    );
+    )?;
     case(
-        b"word 4,294,967,296",
+        rt,
+        "word 4,294,967,296",
         b"units=1\ngroups=0\nparents=-\nsend=0,0,4294967296\n",
-    );
+    )?;
     case(
-        b"hop 65,536",
+        rt,
+        "hop 65,536",
         b"units=1\ngroups=0\nparents=-\narrive=65536\n",
-    );
-    case(b"arrive=-1", b"units=1\ngroups=0\nparents=-\narrive=-1\n");
+    )?;
+    case(
+        rt,
+        "arrive=-1",
+        b"units=1\ngroups=0\nparents=-\narrive=-1\n",
+    )
 }
 
 // Numbers outside their limits: 5 and 6; of several faults in a line the lowest number decides.
-fn bad_numbers() {
-    case(b"0 units", b"units=0\n");
-    case(b"33 units", b"units=33\n");
-    case(b"25 groups", b"units=1\ngroups=25\n");
+fn bad_numbers(rt: &impl Print) -> io::Result<()> {
+    case(rt, "0 units", b"units=0\n")?;
+    case(rt, "33 units", b"units=33\n")?;
+    case(rt, "25 groups", b"units=1\ngroups=25\n")?;
     case(
-        b"member 2 of 2 units, not rising",
+        rt,
+        "member 2 of 2 units, not rising",
         b"units=2\ngroups=1\ngroup=1,0,2\n",
-    );
-    case(b"parent 255", b"units=2\ngroups=0\nparents=255,-\n");
+    )?;
+    case(rt, "parent 255", b"units=2\ngroups=0\nparents=255,-\n")?;
     case(
-        b"parent outside, too long",
+        rt,
+        "parent outside, too long",
         b"units=2\ngroups=0\nparents=-,-,2\n",
-    );
+    )
 }
 
 // Members that do not rise, and too few or too many parents: 7 and 8; that of the first bad line.
-fn bad_sequences() {
-    case(b"not rising", b"units=2\ngroups=1\ngroup=1,0\n");
-    case(b"a member twice", b"units=2\ngroups=1\ngroup=0,0\n");
-    case(b"parents too short", b"units=2\ngroups=0\nparents=-\n");
-    case(b"parents too long", b"units=2\ngroups=0\nparents=-,-,-\n");
+fn bad_sequences(rt: &impl Print) -> io::Result<()> {
+    case(rt, "not rising", b"units=2\ngroups=1\ngroup=1,0\n")?;
+    case(rt, "a member twice", b"units=2\ngroups=1\ngroup=0,0\n")?;
+    case(rt, "parents too short", b"units=2\ngroups=0\nparents=-\n")?;
     case(
-        b"badly written after not rising",
+        rt,
+        "parents too long",
+        b"units=2\ngroups=0\nparents=-,-,-\n",
+    )?;
+    case(
+        rt,
+        "badly written after not rising",
         b"units=2\ngroups=1\ngroup=1,0,x\n",
-    );
+    )?;
     case(
-        b"first bad line, not lowest number",
+        rt,
+        "first bad line, not lowest number",
         b"units=2\ngroups=2\ngroup=1,0\ngroup=x\n",
-    );
+    )
 }
 
 // So many times a line, from a place on.
@@ -260,51 +287,68 @@ fn repeated(file: &mut [u8], at: usize, line: &[u8], times: usize) -> usize {
 }
 
 // The start of a list, as a file.
-fn start_case(name: &[u8], file: &[u8], end: usize) {
+fn start_case(rt: &impl Print, name: &str, file: &[u8], end: usize) -> io::Result<()> {
     if end <= file.len() {
-        case(name, &file[..end]);
+        case(rt, name, &file[..end])?;
     }
+    Ok(())
 }
 
 // A file of one unit with so many of two lines, and a last one.
-fn events(name: &[u8], first: &[u8], many: usize, second: &[u8], few: usize, last: &[u8]) {
+fn events(
+    rt: &impl Print,
+    name: &str,
+    first: &[u8],
+    many: usize,
+    second: &[u8],
+    few: usize,
+    last: &[u8],
+) -> io::Result<()> {
     let mut file = [0u8; 32800];
     let start = put_text(&mut file, 0, b"units=1\ngroups=0\nparents=build\n");
     let middle = repeated(&mut file, start, first, many);
     let near = repeated(&mut file, middle, second, few);
     let end = put_text(&mut file, near, last);
-    start_case(name, &file, end);
+    start_case(rt, name, &file, end)
 }
 
 // A file with so many arrivals of hop 0, and a last line.
-fn arrivals(name: &[u8], many: usize, last: &[u8]) {
-    events(name, b"arrive=0\n", many, b"", 0, last);
+fn arrivals(rt: &impl Print, name: &str, many: usize, last: &[u8]) -> io::Result<()> {
+    events(rt, name, b"arrive=0\n", many, b"", 0, last)
 }
 
 // A file with so many lines of 13 bytes and of 12, and a last one.
-fn long_file(name: &[u8], many: usize, few: usize, last: &[u8]) {
-    events(name, b"arrive=10000\n", many, b"arrive=1000\n", few, last);
+fn long_file(rt: &impl Print, name: &str, many: usize, few: usize, last: &[u8]) -> io::Result<()> {
+    events(
+        rt,
+        name,
+        b"arrive=10000\n",
+        many,
+        b"arrive=1000\n",
+        few,
+        last,
+    )
 }
 
 // Many events, and long files.
-fn large() {
-    arrivals(b"3,000 events", 3000, b"");
-    arrivals(b"3,001 events", 3001, b"");
-    arrivals(b"3,001st event badly written", 3000, b"arrive=00\n");
-    arrivals(b"3,001st event without LF", 3000, b"arrive=0");
-    long_file(b"32,768 bytes", 2509, 10, b"");
-    long_file(b"32,769 bytes", 2510, 9, b"");
-    long_file(b"32,769 bytes, the last no LF", 2509, 10, b"x");
+fn large(rt: &impl Print) -> io::Result<()> {
+    arrivals(rt, "3,000 events", 3000, b"")?;
+    arrivals(rt, "3,001 events", 3001, b"")?;
+    arrivals(rt, "3,001st event badly written", 3000, b"arrive=00\n")?;
+    arrivals(rt, "3,001st event without LF", 3000, b"arrive=0")?;
+    long_file(rt, "32,768 bytes", 2509, 10, b"")?;
+    long_file(rt, "32,769 bytes", 2510, 9, b"")?;
+    long_file(rt, "32,769 bytes, the last no LF", 2509, 10, b"x")
 }
 
-fn main() {
-    good();
-    missing_lines();
-    other_keys();
-    bad_values();
-    bad_lists();
-    bad_events();
-    bad_numbers();
-    bad_sequences();
-    large();
+fn main(rt: HostRuntime) -> io::Result<()> {
+    good(&rt)?;
+    missing_lines(&rt)?;
+    other_keys(&rt)?;
+    bad_values(&rt)?;
+    bad_lists(&rt)?;
+    bad_events(&rt)?;
+    bad_numbers(&rt)?;
+    bad_sequences(&rt)?;
+    large(&rt)
 }

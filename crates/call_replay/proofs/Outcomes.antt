@@ -205,7 +205,8 @@ module _ (g : Given) (accepted : Forest g ≡ []) (lent : FreshShort g ≡ false
     unfolding plan_of after runCalls runCallsFrom network_of
     begins =
         let x = R.begins.whole hops-whole book-whole in
-        let long : 2000 ≤ length all_nines = subst (λ (k : ℕ). 2000 ≤ k) (sym (length-replicate 2008 nines)) (omega arith) in record {
+        let long : 2000 ≤ length all_nines =
+        subst (λ (k : ℕ). 2000 ≤ k) (sym (length-replicate 2008 nines)) (omega arith) in record {
           bench = R.begins.bench;
           hops-are = replaced 2000 n (take 2000 all_nines) (drop 2000 all_nines) all_nines (sym (take-append-drop 2000 all_nines))
               (length-take-le 2000 all_nines long) (hop_records (fresh_on P)) R.hops-fresh hops-whole x.1
@@ -239,7 +240,8 @@ module _ (g : Given) (accepted : Forest g ≡ []) (lent : FreshShort g ≡ false
     left_by f before none = ap f (sym ran-is) ∙ unrefused-left (refusal_of g) none (f (ran g)) before
 
     all-ran : (a : Answer) {bench-left : List ℕ} {place : ℕ} → Short g ≡ false
-        → Written (bench_out (lists_of end.bench)) 0 g.bench place bench-left → numbers_of a ≡ 0 ∷ length g.calls / 6 ∷ end.numbers ∷ []
+        → Written (bench_out (lists_of end.bench)) 0 g.bench place bench-left → numbers_of a
+        ≡ 0 ∷ length g.calls / 6 ∷ end.numbers ∷ []
         → CallsPromise g a book-left records-left bench-left replies-left
     unfolding replies_of state_of begun_with over last_records lists_short requests
     all-ran a long puts told =

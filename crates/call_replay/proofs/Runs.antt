@@ -133,7 +133,8 @@ handed-small u book W L =
     let Q : LogAnswer → Type 0 = λ a. length (handed_back a) ≤ 200 in
     refuse-either Q _ _ _ (λ t. omega arith) (λ t. refuse-either Q _ _ _ (λ t. omega arith) (λ t. L.log u))
 
-log-numbers : (l : List ℕ) → length l % 65536 ≡ length l → ◌≡◌ {A = List ℕ} (0 ∷ 7 ∷ length l % 65536 ∷ l) (log_numbers l)
+log-numbers : (l : List ℕ) → length l % 65536 ≡ length l → ◌≡◌ {A = List ℕ} (0 ∷ 7 ∷ length l % 65536 ∷ l)
+    (log_numbers l)
 unfolding log_numbers
 log-numbers l e = λ i. 0 ∷ 7 ∷ e i ∷ l
 

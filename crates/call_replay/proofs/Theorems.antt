@@ -223,7 +223,8 @@ module _ (g : Given) (a : Told) (book hops bench replies : List ℕ) (promise : 
   refused_none [] e some = refl
   refused_none (number ∷ values) e some =
       let good : List ℕ = 0 ∷ length (requests g) ∷ length (replies_of (ran g)) ∷ [] in
-      let first = ap (λ (x : List ℕ). get_or x 0 0) (promise.answers ∙ ap (λ (r : List ℕ). unless_refused r good (refused_for r)) e) in
+      let first = ap (λ (x : List ℕ). get_or x 0 0) (promise.answers ∙ ap (λ (r : List ℕ). unless_refused r good (refused_for r)) e)
+      in
       absurd (some (sym first ∙ told))
 
   none : refusal_of g ≡ []

@@ -1,6 +1,7 @@
 -- What the theorems say of a list of calls that was run, beyond the call's promise: read off the lists that the caller lent, it is a list
 -- of calls of demand 3. Definitions only; the proofs are in proofs/Theorems.antt.
-use Rattle.std.specs.Prelude.{ℕ, zero, suc, ◌+◌, ◌*◌, ◌<◌, ◌≡◌, Bool, cond, List, [], ◌∷◌, ◌++◌, get_or, take, drop, ltb, eqb}
+use Rattle.std.specs.Prelude.{ℕ, zero, suc, ◌+◌, ◌*◌, ◌<◌, ◌≡◌, Bool, cond, List, [], ◌∷◌, ◌++◌, get_or}
+use Rattle.std.specs.Prelude.{take, drop, ltb, eqb}
 use Rattle.model.specs.declared.Hop.{Hop}
 use Rattle.model.specs.Rules.{Answer, Refused, Sent, Repeat, Held, Taken, all_taken}
 use Rattle.model.specs.Calls.{Send as SendCall, Arrive as ArriveCall, Answered, answered}

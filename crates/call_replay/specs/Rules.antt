@@ -1,5 +1,6 @@
 -- Rules of a list of calls (include/scrollcairn_replay.h): what scrollcairn_calls answers and leaves, for every input. Definitions only.
-use Rattle.std.specs.Prelude.{ℕ, ◌*◌, min, ◌≡◌, Bool, ◌||◌, cond, List, [], ◌∷◌, ◌++◌, length, drop, replicate, ltb, eqb}
+use Rattle.std.specs.Prelude.{ℕ, ◌*◌, min, ◌≡◌, Bool, ◌||◌, cond, List, [], ◌∷◌, ◌++◌, length, drop, replicate}
+use Rattle.std.specs.Prelude.{ltb, eqb}
 use Rattle.layout.specs.Tables.{tabulate}
 use Rattle.forest.specs.Calls.{check_refusal, check_parents}
 use Rattle.model.specs.declared.Hop.{Hop}

@@ -1,5 +1,6 @@
 -- What the functions below `run` say of their results: each is a step of the code. Nothing here need be believed. Definitions only.
-use Rattle.std.specs.Prelude.{ℕ, ◌*◌, ◌-◌, ◌/◌, ◌%◌, min, ◌≡◌, Bool, true, false, not, ◌||◌, List, ◌∷◌, ◌++◌, length, get_or, take, drop, replicate, ltb, eqb}
+use Rattle.std.specs.Prelude.{ℕ, ◌*◌, ◌-◌, ◌/◌, ◌%◌, min, ◌≡◌, Bool, true, false, not, ◌||◌, List, ◌∷◌}
+use Rattle.std.specs.Prelude.{◌++◌, length, get_or, take, drop, replicate, ltb, eqb}
 use Rattle.text.specs.Writing.{Written}
 use Rattle.bench_store.specs.Values.{capped}
 use Rattle.model.specs.declared.Hop.{Hop}

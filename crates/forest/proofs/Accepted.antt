@@ -68,7 +68,8 @@ pub built-parent : (n : ℕ) (gs : List ℕ) (u : ℕ) → n ≤ 32 → u < n �
 built-parent n gs u few h =
     let small : u < 32 = lt_of_lt_of_le h few in
     ap (λ (l : List ℕ). parent l u) (sym (cut_layout n gs)) ∙ drawn-entry n (tabulate 32 (built_parent gs)) u small
-    ∙ cond-true (ltb u n) (get_or (tabulate 32 (built_parent gs)) u 255) 255 (lt-ltb u n h) ∙ get_d_tabulate 32 (built_parent gs) u 255 small
+    ∙ cond-true (ltb u n) (get_or (tabulate 32 (built_parent gs)) u 255) 255 (lt-ltb u n h)
+    ∙ get_d_tabulate 32 (built_parent gs) u 255 small
 
 module _ (n : ℕ) (gs : List ℕ) (bench : Bench n gs) where
   small : {u : ℕ} → u < n → u < 32
@@ -165,7 +166,8 @@ module _ (n : ℕ) (gs : List ℕ) (bench : Bench n gs) where
 
   group-primary : (m : ℕ) {s live top : ℕ} (l : Laid n gs s live top) (i v : ℕ) → size s ≤ m → member live i ≡ true
       → member (get_or gs i 0) v ≡ true
-      → ((u : ℕ) → member (get_or gs i 0) u ≡ true → member s u ≡ true) → (p : ℕ) × IsPrimary (built n gs) (get_or gs i 0) p
+      → ((u : ℕ) → member (get_or gs i 0) u ≡ true → member s u ≡ true) → (p : ℕ) × IsPrimary (built n gs) (get_or gs i 0)
+      p
   group-primary zero {s} l i v h a b sub =
       absurd (not-suc-le-zero (le_trans (size_positive s v (small (laid-unit l (sub v b))) (sub v b)) h))
   group-primary (suc m) {s} {live} l i v h a b sub =
@@ -173,7 +175,13 @@ module _ (n : ℕ) (gs : List ℕ) (bench : Bench n gs) where
       let r : ℕ = root gs s in
       let q = root_is gs s v f.bounded (sub v b) in
       ⊎_elim
-      (λ (g : member (get_or gs i 0) r ≡ true). (r, record { inside = g; every = λ u c. root-above 32 l r q u (size_below s) (sub u c) }))
+      (λ (g : member (get_or gs i 0) r ≡ true). (
+        r,
+        record {
+          inside = g;
+          every = λ u c. root-above 32 l r q u (size_below s) (sub u c);
+        },
+      ))
       (λ (g : member (get_or gs i 0) r ≡ false).
       let k : v ≡ r → ⊥ = λ e. clash b (ap (member (get_or gs i 0)) e ∙ g) in
       let left = live-left gs live r i a (λ c. clash c g) in

@@ -350,7 +350,8 @@ module _ (n c : ℕ) (gs ps : List ℕ) where
   first-once g h v w = by_cases (dec_lt g h) (λ l. absurd (let p = w.2 g l in v.1 p.0 p.1))
       (λ m. by_cases (dec_lt h g) (λ l. absurd (let p = v.2 h l in w.1 p.0 p.1)) (λ l. omega arith))
 
-  primaries_decided : Decides (ParentsWithin n c gs ps × Acyclic (drawn n ps)) (not (eqb (without_primary c (counted c gs) (drawn n ps)) 0))
+  primaries_decided : Decides (ParentsWithin n c gs ps × Acyclic (drawn n ps))
+      (not (eqb (without_primary c (counted c gs) (drawn n ps)) 0))
       ((g : ℕ) × Eleven n c gs ps g) (ParentsWithin n c gs ps × Acyclic (drawn n ps) × HavePrimaries c gs (drawn n ps))
   unfolding without_primary Eleven FirstWithout HavePrimaries
   primaries_decided = record {
@@ -376,7 +377,8 @@ module _ (n c : ℕ) (gs ps : List ℕ) where
   named i t m = first-once i _ m.2 (first_lacking m.0.groups t)
 
   checked-judged : check_refusal n c gs ps ≡ judged (bad_counts n c) (not (eqb (empty_groups c (counted c gs)) 0))
-      (not (eqb (outside_groups n (counted c gs)) 0) || not (eqb (outside_parents n (drawn n ps)) 0)) (not (eqb (cyclic_units (drawn n ps)) 0))
+      (not (eqb (outside_groups n (counted c gs)) 0) || not (eqb (outside_parents n (drawn n ps)) 0))
+      (not (eqb (cyclic_units (drawn n ps)) 0))
       (not (eqb (without_primary c (counted c gs) (drawn n ps)) 0)) (lowest (without_primary c (counted c gs) (drawn n ps)))
   unfolding check_refusal groups_refusal drawing_refusal judged refuse
   checked-judged =
@@ -410,7 +412,8 @@ nothing_decided A B h = record {
   apart = λ a b. h b;
 }
 
-built-judged : (n c : ℕ) (gs : List ℕ) → build_refusal n c gs ≡ judged (bad_counts n c) (not (eqb (empty_groups c (counted c gs)) 0))
+built-judged : (n c : ℕ) (gs : List ℕ) → build_refusal n c gs
+    ≡ judged (bad_counts n c) (not (eqb (empty_groups c (counted c gs)) 0))
     (not (eqb (outside_groups n (counted c gs)) 0)) false false 0
 unfolding build_refusal groups_refusal judged refuse
 built-judged n c gs = refl

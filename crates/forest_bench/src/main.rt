@@ -2,7 +2,8 @@
 // The first argument names one kind; with none, or another word, all three are run.
 #![tactic(auto)]
 
-use libc::STDOUT_FILENO;
+use std::env::Env;
+use std::io;
 
 #[derive(Clone, Copy)]
 enum Kind {
@@ -126,33 +127,29 @@ fn checksum(kind: Kind) -> u32 {
     sum
 }
 
-fn run(name: &[u8], kind: Kind) {
-    io::write_all(STDOUT_FILENO, name);
-    io::print_decimal(STDOUT_FILENO, checksum(kind) as u64);
-    io::write_all(STDOUT_FILENO, b"\n");
+fn run(rt: &impl Print, name: &str, kind: Kind) -> io::Result<()> {
+    println!(rt; "{name} {}", checksum(kind))
 }
 
-fn run_all() {
-    run(b"random ", Kind::Random);
-    run(b"chain ", Kind::Chain);
-    run(b"star ", Kind::Star);
+fn run_all(rt: &impl Print) -> io::Result<()> {
+    run(rt, "random", Kind::Random)?;
+    run(rt, "chain", Kind::Chain)?;
+    run(rt, "star", Kind::Star)
 }
 
 // Runs the kind that the word names.
-fn run_named(word: &[u8]) {
-    if check::same(word, b"random") {
-        run(b"random ", Kind::Random);
-    } else if check::same(word, b"chain") {
-        run(b"chain ", Kind::Chain);
-    } else if check::same(word, b"star") {
-        run(b"star ", Kind::Star);
-    } else {
-        run_all();
+fn run_named(rt: &impl Print, word: &[u8]) -> io::Result<()> {
+    match word {
+        b"random" => run(rt, "random", Kind::Random),
+        b"chain" => run(rt, "chain", Kind::Chain),
+        b"star" => run(rt, "star", Kind::Star),
+        _ => run_all(rt),
     }
 }
 
-fn main() {
+fn main(rt: HostRuntime) -> io::Result<()> {
     let mut word = [0u8; 16];
-    let length = os::arg(1, &mut word);
-    run_named(&word[..length]);
+    // a longer word names no kind
+    let length = rt.arg(1, &mut word).unwrap_or(0);
+    run_named(&rt, &word[..length])
 }

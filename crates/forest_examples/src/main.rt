@@ -2,7 +2,7 @@
 #![tactic(auto)]
 
 use forest::{Answer, Verdict};
-use libc::STDOUT_FILENO;
+use std::io;
 
 // A list of groups whose first four places are given, with empty groups after them.
 fn table(a: u32, b: u32, c: u32, d: u32) -> [u32; 24] {
@@ -45,181 +45,213 @@ fn circle() -> [u8; 32] {
     parents
 }
 
-fn print(text: &[u8]) {
-    io::write_all(STDOUT_FILENO, text);
-}
-
 // The parent of u, with a comma before it unless u is the first unit.
-fn print_parent(parents: [u8; 32], u: usize) {
+fn print_parent(rt: &impl Print, parents: [u8; 32], u: usize) -> io::Result<()> {
     if 32 <= u {
-        return;
+        return Ok(());
     }
     if 0 < u {
-        print(b",");
+        rt.print(",")?;
     }
     let parent = parents[u];
     if parent == 255 {
-        print(b"-");
-        return;
+        return rt.print("-");
     }
-    io::print_decimal(STDOUT_FILENO, parent as u64);
+    rt.print(parent)
 }
 
-fn print_parents(units: usize, parents: [u8; 32]) {
-    print(b" parents=");
+fn print_parents(rt: &impl Print, units: usize, parents: [u8; 32]) -> io::Result<()> {
+    rt.print(" parents=")?;
     let mut u = 0;
     while u < units {
-        print_parent(parents, u);
+        print_parent(rt, parents, u)?;
         u += 1;
     }
+    Ok(())
 }
 
-fn print_no_primary(group: usize) {
-    print(b" refused=11,");
-    io::print_decimal(STDOUT_FILENO, group as u64);
+fn print_no_primary(rt: &impl Print, group: usize) -> io::Result<()> {
+    print!(rt; " refused=11,{group}")
 }
 
 // One line: the name, and the units' parents or the refusal.
-fn print_answer(name: &[u8], units: usize, answer: Answer) {
-    print(name);
+fn print_answer(rt: &impl Print, name: &str, units: usize, answer: Answer) -> io::Result<()> {
+    rt.print(name)?;
     let verdict = answer.verdict;
     let parents = answer.parents;
     match verdict {
-        Verdict::Accepted => print_parents(units, parents),
-        Verdict::BadCounts => print(b" refused=5,0"),
-        Verdict::EmptyGroup => print(b" refused=4,0"),
-        Verdict::OutsideUnits => print(b" refused=6,0"),
-        Verdict::OwnAncestor => print(b" refused=10"),
-        Verdict::NoPrimary(group) => print_no_primary(group),
+        Verdict::Accepted => print_parents(rt, units, parents)?,
+        Verdict::BadCounts => rt.print(" refused=5,0")?,
+        Verdict::EmptyGroup => rt.print(" refused=4,0")?,
+        Verdict::OutsideUnits => rt.print(" refused=6,0")?,
+        Verdict::OwnAncestor => rt.print(" refused=10")?,
+        Verdict::NoPrimary(group) => print_no_primary(rt, group)?,
     }
-    print(b"\n");
+    rt.print("\n")
 }
 
-fn built(name: &[u8], units: usize, groups: [u32; 24], count: usize) {
-    print_answer(name, units, forest::build(units, groups, count));
+fn built(
+    rt: &impl Print,
+    name: &str,
+    units: usize,
+    groups: [u32; 24],
+    count: usize,
+) -> io::Result<()> {
+    print_answer(rt, name, units, forest::build(units, groups, count))
 }
 
-fn drawn(name: &[u8], units: usize, groups: [u32; 24], count: usize, parents: [u8; 32]) {
-    print_answer(name, units, forest::check(units, groups, count, parents));
+fn drawn(
+    rt: &impl Print,
+    name: &str,
+    units: usize,
+    groups: [u32; 24],
+    count: usize,
+    parents: [u8; 32],
+) -> io::Result<()> {
+    print_answer(
+        rt,
+        name,
+        units,
+        forest::check(units, groups, count, parents),
+    )
 }
 
 // u, if it is in the set, with a comma before it unless it is the lowest.
-fn print_member(set: u32, u: usize) {
+fn print_member(rt: &impl Print, set: u32, u: usize) -> io::Result<()> {
     if sets::member(set, u) {
         if u != sets::lowest(set) {
-            print(b",");
+            rt.print(",")?;
         }
-        io::print_decimal(STDOUT_FILENO, u as u64);
+        rt.print(u)?;
     }
+    Ok(())
 }
 
-fn print_members(set: u32) {
+fn print_members(rt: &impl Print, set: u32) -> io::Result<()> {
     let mut u = 0;
     while u < 32 {
-        print_member(set, u);
+        print_member(rt, set, u)?;
         u += 1;
     }
+    Ok(())
 }
 
 // One line: the name, and the units on a group's way.
-fn print_way(name: &[u8], answer: Answer, group: u32) {
-    print(name);
-    print(b" way=");
+fn print_way(rt: &impl Print, name: &str, answer: Answer, group: u32) -> io::Result<()> {
+    print!(rt; "{name} way=")?;
     let parents = answer.parents;
-    print_members(forest::routes::route(parents, group));
-    print(b"\n");
+    print_members(rt, forest::routes::route(parents, group))?;
+    rt.print("\n")
 }
 
 // Ways of P3's forest, a line of four units, and of P4's, where unit 2 carries for group 0.
-fn ways() {
+fn ways(rt: &impl Print) -> io::Result<()> {
     let line = forest::build(4, bench_c(), 4);
-    print_way(b"P3 group 0", line, 9);
-    print_way(b"P3 group 1", line, 3);
-    print_way(b"P3 group 2", line, 12);
+    print_way(rt, "P3 group 0", line, 9)?;
+    print_way(rt, "P3 group 1", line, 3)?;
+    print_way(rt, "P3 group 2", line, 12)?;
     let drawn = forest::check(4, bench_c(), 4, drawing(255, 2, 0, 2));
-    print_way(b"P4 group 0", drawn, 9);
+    print_way(rt, "P4 group 0", drawn, 9)
 }
 
 // Document 01's examples of forests.
-fn examples() {
-    built(b"P1", 4, table(11, 14, 0, 0), 2);
-    built(b"P2", 4, table(3, 6, 12, 0), 3);
-    built(b"P3", 4, bench_c(), 4);
-    drawn(b"P4", 4, bench_c(), 4, drawing(255, 2, 0, 2));
-    drawn(b"P5", 4, bench_c(), 4, drawing(255, 0, 0, 0));
-    drawn(b"P6", 2, [0; 24], 0, drawing(1, 0, 255, 255));
+fn examples(rt: &impl Print) -> io::Result<()> {
+    built(rt, "P1", 4, table(11, 14, 0, 0), 2)?;
+    built(rt, "P2", 4, table(3, 6, 12, 0), 3)?;
+    built(rt, "P3", 4, bench_c(), 4)?;
+    drawn(rt, "P4", 4, bench_c(), 4, drawing(255, 2, 0, 2))?;
+    drawn(rt, "P5", 4, bench_c(), 4, drawing(255, 0, 0, 0))?;
+    drawn(rt, "P6", 2, [0; 24], 0, drawing(1, 0, 255, 255))
 }
 
 // What a build and a check take.
-fn taken() {
-    built(b"32 units", 32, table(4294967295, 0, 0, 0), 1);
-    built(b"24 groups", 1, [1; 24], 24);
-    built(b"no groups", 3, [0; 24], 0);
-    built(b"equal groups", 3, table(6, 6, 0, 0), 2);
-    built(b"member 4 past the groups", 4, table(3, 16, 0, 0), 1);
+fn taken(rt: &impl Print) -> io::Result<()> {
+    built(rt, "32 units", 32, table(4294967295, 0, 0, 0), 1)?;
+    built(rt, "24 groups", 1, [1; 24], 24)?;
+    built(rt, "no groups", 3, [0; 24], 0)?;
+    built(rt, "equal groups", 3, table(6, 6, 0, 0), 2)?;
+    built(rt, "member 4 past the groups", 4, table(3, 16, 0, 0), 1)?;
     drawn(
-        b"parent 200 past the units",
+        rt,
+        "parent 200 past the units",
         2,
         table(3, 0, 0, 0),
         1,
         drawing(255, 0, 200, 0),
-    );
+    )
 }
 
 // What a build turns away.
-fn bad_tables() {
-    built(b"33 units", 33, [0; 24], 0);
-    built(b"0 units", 0, [0; 24], 0);
-    built(b"25 groups", 4, [1; 24], 25);
-    built(b"empty group", 4, table(3, 0, 0, 0), 2);
-    built(b"member 4 of 4 units", 4, table(3, 24, 0, 0), 2);
+fn bad_tables(rt: &impl Print) -> io::Result<()> {
+    built(rt, "33 units", 33, [0; 24], 0)?;
+    built(rt, "0 units", 0, [0; 24], 0)?;
+    built(rt, "25 groups", 4, [1; 24], 25)?;
+    built(rt, "empty group", 4, table(3, 0, 0, 0), 2)?;
+    built(rt, "member 4 of 4 units", 4, table(3, 24, 0, 0), 2)
 }
 
 // What a check turns away.
-fn bad_drawings() {
-    drawn(b"parent 200", 4, bench_c(), 4, drawing(255, 200, 0, 2));
-    drawn(b"circle of 1", 1, [0; 24], 0, drawing(0, 255, 255, 255));
+fn bad_drawings(rt: &impl Print) -> io::Result<()> {
+    drawn(rt, "parent 200", 4, bench_c(), 4, drawing(255, 200, 0, 2))?;
+    drawn(rt, "circle of 1", 1, [0; 24], 0, drawing(0, 255, 255, 255))?;
     drawn(
-        b"circle of 2",
+        rt,
+        "circle of 2",
         4,
         table(3, 0, 0, 0),
         1,
         drawing(1, 0, 255, 255),
-    );
-    drawn(b"circle of 32", 32, [0; 24], 0, circle());
-    drawn(b"group with two roots", 2, table(1, 3, 0, 0), 2, [255; 32]);
+    )?;
+    drawn(rt, "circle of 32", 32, [0; 24], 0, circle())?;
+    drawn(
+        rt,
+        "group with two roots",
+        2,
+        table(1, 3, 0, 0),
+        2,
+        [255; 32],
+    )
 }
 
 // Of several faults the first in document 01's order decides, wherever it stands.
-fn several_faults() {
-    built(b"both faults: 33 units before empty group", 33, [0; 24], 1);
+fn several_faults(rt: &impl Print) -> io::Result<()> {
     built(
-        b"both faults: empty group before outside member",
+        rt,
+        "both faults: 33 units before empty group",
+        33,
+        [0; 24],
+        1,
+    )?;
+    built(
+        rt,
+        "both faults: empty group before outside member",
         4,
         table(16, 0, 0, 0),
         2,
-    );
+    )?;
     drawn(
-        b"both faults: outside parent before circle",
+        rt,
+        "both faults: outside parent before circle",
         3,
         [0; 24],
         0,
         drawing(1, 0, 3, 255),
-    );
+    )?;
     drawn(
-        b"both faults: circle before group without primary",
+        rt,
+        "both faults: circle before group without primary",
         3,
         table(5, 0, 0, 0),
         1,
         drawing(1, 0, 255, 255),
-    );
+    )
 }
 
-fn main() {
-    examples();
-    ways();
-    taken();
-    bad_tables();
-    bad_drawings();
-    several_faults();
+fn main(rt: HostRuntime) -> io::Result<()> {
+    examples(&rt)?;
+    ways(&rt)?;
+    taken(&rt)?;
+    bad_tables(&rt)?;
+    bad_drawings(&rt)?;
+    several_faults(&rt)
 }

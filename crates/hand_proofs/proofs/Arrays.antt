@@ -22,7 +22,8 @@ use base.Logic.{SProp, ent, sep, ex, guard, via}
 use base.Fml.{GName, Fml, fat, flent}
 use prog.Wp.{Env}
 use types.Logic.{Logic, sem}
-use types.Kit.{Item, Goal, Soaks, Seq, Step, step, ‵, ◌⊛◌, some, given, later, mean, ⋆, nth, del, put, fill, pop, ◌$◌, ◌∵◌}
+use types.Kit.{Item, Goal, Soaks, Seq, Step, step, ‵, ◌⊛◌, some, given, later, mean, ⋆, nth, del, put, fill, pop, ◌$◌}
+use types.Kit.{◌∵◌}
 use types.Kit.{ !, qed, move, use0, use1, use2, use3, rewrite, split, pick, learn, drop, fsplit, fjoin, feq_l, feq_i, await, updating}
 use types.Kit.{now as at_once, show as witness, check, done}
 use types.Part.{rep}
@@ -62,7 +63,8 @@ module _ {R : RattleType} (B : ByValue R) where
 
   pub repeats : {M : Type 1} {𝓤 : Ura M} {𝓛 : Logic 𝓤} {K : Type 0} {Γ : List (Item 𝓤)}
       {E : Env 𝓤 𝓛.H} {o : Operand}
-      → K → (n : ℕ) (x : R.Denot) → Opd K 𝓛 Γ E o (B.word x) → Rv K 𝓛 Γ E (repeat o n) ((by_array R B n).word (replicate n x))
+      → K → (n : ℕ) (x : R.Denot) → Opd K 𝓛 Γ E o (B.word x)
+      → Rv K 𝓛 Γ E (repeat o n) ((by_array R B n).word (replicate n x))
   repeats t n x a = equals (ap array_val (sym (map-replicate B.word n x))) (rep t n a)
 
 -- ---- lent
@@ -100,7 +102,8 @@ module _ {M : Type 1} {𝓤 : Ura M} (𝓛 : Logic 𝓤) (R : RattleType)
       (slice_val (b, 0) (length xs) ∷ []))
       ⊛ ‵ (flent κ (Held R (length xs) b 0 γ)))))
       (lends_slice 𝓛 R erased κ xs b 0 (subst (Room R) (sym l) room)) $ await ! tt $ pick ! (λ γ. split ! $
-      rewrite ! 0 (λ (m : ℕ). ‵ ((MutSlice erased κ R).own_val (record { ref_ptr = (b, 0); ghost_name = γ; now = xs }) (slice_val (b, 0) m ∷ [])))
+      rewrite ! 0 (λ (m : ℕ). ‵ ((MutSlice erased κ R).own_val (record { ref_ptr = (b, 0); ghost_name = γ; now = xs })
+      (slice_val (b, 0) m ∷ [])))
       l refl $
       rewrite ! 1 (λ (m : ℕ). ‵ (flent κ (Held R m b 0 γ))) l refl $
       -- [the slice; the lender's part; the token]
@@ -111,7 +114,8 @@ module _ {M : Type 1} {𝓤 : Ura M} (𝓛 : Logic 𝓤) (R : RattleType)
       (H.⇛ (guard 𝓤 (Is (Array R n) zs (word zs ∷ [])) (sem 𝓛 (ArrayCell R B n b zs))))
   comes_back α γ zs =
       let κ = α ∷ [] in
-      qed 𝓛 (‵ (LentOut R n b α γ) ∷ ‵ (Holds R (array_loan n b α γ) zs) ∷ []) ∵ updating ! $ move ! (1 ∷ []) $ fsplit ! $
+      qed 𝓛 (‵ (LentOut R n b α γ) ∷ ‵ (Holds R (array_loan n b α γ) zs) ∷ []) ∵ updating ! $ move ! (1 ∷ []) $ fsplit !
+      $
       fsplit ! $ drop ! $ fsplit ! $ name_done ! tt $
       use1 𝓛 (‵ (finally R γ zs)) (res-finally 𝓛 erased κ R γ zs) $ move ! (1 ∷ []) $ drop ! $
       -- [what says the last list; the token; the lender's part]

@@ -36,4 +36,5 @@ abbrev pub Turned : {M : Type 1} {𝓤 : Ura M} (𝓛 : Logic 𝓤) (𝓣 : Tabl
     (Kf : Val → SProp 𝓤) {X : Type 0} → (X → X → Type 0)
     → (X → List (Item 𝓤)) → X → Out → SProp 𝓤
 Turned {𝓤 = 𝓤} 𝓛 𝓣 E rest Kf ≺ I i = after_turn 𝓤 𝓛.H (Below 𝓛 ≺ I i)
-    (after_block 𝓤 𝓛.H (after_seq 𝓤 𝓛.H (Wp 𝓤 𝓛.H 𝓣.C 𝓣.Λ E rest (at_return 𝓤 𝓛.H E Kf)) (at_return 𝓤 𝓛.H E Kf)))
+    (after_block 𝓤 𝓛.H (after_seq 𝓤 𝓛.H (Wp 𝓤 𝓛.H 𝓣.C 𝓣.Λ E rest (at_return 𝓤 𝓛.H E Kf))
+    (at_return 𝓤 𝓛.H E Kf)))

@@ -23,7 +23,8 @@ use sound.WpLaws.{FmC, eval_opds_fm}
 use contract.Monad.{fact, fact_i, fact_use}
 use contract.Lifetimes.{Lfts, Shares, Within, lft_at, toks}
 use types.Kit.{Item, ‵, raw, ◌⊛◌, some, later, mean, ⋆, pop, push, Post, Goal, runs, lands, settles, Soaks, Seq, cut, ◌$◌}
-use types.Kit.{◌∵◌, !, qed, by, move, use0, use1, use3, split, join, pick, drop, fsplit, fjoin, frame, await, updating, now as at_once}
+use types.Kit.{◌∵◌, !, qed, by, move, use0, use1, use3, split, join, pick, drop, fsplit, fjoin, frame, await, updating}
+use types.Kit.{now as at_once}
 use types.Kit.{show as witness, done}
 use types.Run.{Opds}
 use types.Tokens.{lft_new, lft_end}
@@ -64,7 +65,8 @@ module _ {M : Type 1} {𝓤 : Ura M} (𝓛 : Logic 𝓤) where
 
   module _ where
     begun : (n : ℕ) → ent 𝓤 (emp 𝓤) (H.⇛ (ex 𝓤 (λ (νs : News n). toks 𝓛 n (spans n νs) (fulls n))))
-    begun zero = qed 𝓛 [] ∵ updating ! $ at_once ! $ witness ! (λ (νs : News zero). toks 𝓛 zero (spans zero νs) (fulls zero)) tt $
+    begun zero = qed 𝓛 [] ∵ updating ! $ at_once ! $ witness ! (λ (νs : News zero). toks 𝓛 zero (spans zero νs) (fulls zero)) tt
+        $
         done !
     begun (suc n) =
         qed 𝓛 [] ∵ updating ! $ lft_new ! tt (λ ν. use0 𝓛 (later (some
@@ -135,7 +137,8 @@ module _ {M : Type 1} {𝓤 : Ura M} (𝓛 : Logic 𝓤) where
       qed 𝓛 (raw D ∷ ‵ (fsep N N') ∷ ‵ (fsep E E') ∷ []) ∵ updating ! $ use1 𝓛 (‵ (fdead κ) ⊛ raw D) dead $ split ! $
       move ! (2 ∷ []) $ fsplit ! $ move ! (4 ∷ []) $ fsplit ! $
       -- [E; E'; N; N'; κ is over; D]
-      move ! (4 ∷ 2 ∷ 0 ∷ []) $ use3 𝓛 (later (‵ P)) p $ await ! tt $ move ! (3 ∷ 2 ∷ 1 ∷ []) $ use3 𝓛 (later (raw Q)) q $
+      move ! (4 ∷ 2 ∷ 0 ∷ []) $ use3 𝓛 (later (‵ P)) p $ await ! tt $ move ! (3 ∷ 2 ∷ 1 ∷ []) $ use3 𝓛 (later (raw Q)) q
+      $
       await ! tt $ at_once ! $ move ! (1 ∷ 0 ∷ []) $ done !
 
   -- where nothing is said of it
@@ -377,7 +380,8 @@ module _ {M : Type 1} {𝓤 : Ura M} (𝓛 : Logic 𝓤) (Γ : List (Item 𝓤))
       (via 𝓤 (⋆ 𝓛 (gaps k Γ)) (snd∗ 𝓤 (emp 𝓤) (⋆ 𝓛 (gaps k Γ))) (clear_gaps k))
 
   -- operands that read nothing of those entries are read as well where one entry i stands in their place
-  over-gaps : {K : Type 0} {E : Env 𝓤 H} {xs : List Operand} (vs : List Val) (k : ℕ) (i : Item 𝓤) → Opds K 𝓛 (gaps k Γ) E xs vs
+  over-gaps : {K : Type 0} {E : Env 𝓤 H} {xs : List Operand} (vs : List Val) (k : ℕ) (i : Item 𝓤)
+      → Opds K 𝓛 (gaps k Γ) E xs vs
       → Opds K 𝓛 (i ∷ Γ) E xs vs
   over-gaps {K} {E} {xs} vs k i os = record {
     go = λ Kt h.

@@ -18,7 +18,8 @@ use mir.Syntax.{erased}
 use base.Logic.{SProp, ent, sep, ex, guard}
 use base.Fml.{GName, Fml, fsep, flent}
 use types.Logic.{Logic, sem}
-use types.Kit.{Item, Goal, Soaks, Seq, ‵, ◌⊛◌, some, given, later, ◌$◌, ◌∵◌, !, qed, move, use1, use2, use3, rewrite, split}
+use types.Kit.{Item, Goal, Soaks, Seq, ‵, ◌⊛◌, some, given, later, ◌$◌, ◌∵◌, !, qed, move, use1, use2, use3, rewrite}
+use types.Kit.{split}
 use types.Kit.{pick, learn, drop as toss, fsplit, fjoin, feq_l, frame, await, updating, now as at_once, show as witness, check, done}
 use types.SemTy.{cells, Arr}
 use types.Tokens.{lft_new, lft_end, name_done}
@@ -81,7 +82,8 @@ module _ {M : Type 1} {𝓤 : Ura M} (𝓛 : Logic 𝓤) (R : RattleType) (L : L
       rewrite ! 0 (λ (l : List R.Denot). ‵ (cells (mem R) l b o)) (sym (take-append-drop n ys)) refl $
       use1 𝓛 (‵ (cells (mem R) (take n ys) b o) ⊛ ‵ (cells (mem R) (drop n ys) b (behind (length (take n ys)))))
       (cut_app 𝓛 (mem R) (take n ys) (drop n ys) b o) $ split ! $
-      use1 𝓛 (later (some (λ (γ : GName). ‵ ((MutSlice erased κ R).own_val (record { ref_ptr = (b, o); ghost_name = γ; now = take n ys })
+      use1 𝓛 (later
+      (some (λ (γ : GName). ‵ ((MutSlice erased κ R).own_val (record { ref_ptr = (b, o); ghost_name = γ; now = take n ys })
       (slice_val (b, o) (length (take n ys)) ∷ []))
       ⊛ ‵ (flent κ (Held R (length (take n ys)) b o γ)))))
       (lends_slice 𝓛 R erased κ (take n ys) b o room) $ await ! tt $ pick ! (λ γ. split ! $
@@ -116,7 +118,8 @@ module _ {M : Type 1} {𝓤 : Ura M} (𝓛 : Logic 𝓤) (R : RattleType) (L : L
 module _ {M : Type 1} {𝓤 : Ura M} {𝓛 : Logic 𝓤} {K : Type 0} {G : Goal 𝓤 𝓛.H}
     {Γ : List (Item 𝓤)} where
   pub lends_front : K → Soaks G → (R : RattleType) (L : Loan) (n : ℕ) (ys : List R.Denot) → n ≤ length ys
-      → ((α : ℕ) (γ : GName) → Seq K 𝓛 (‵ (Holds R (front-loan L n α γ) (take n ys)) ∷ ‵ (FrontOut R L n α γ ys) ∷ Γ)
+      → ((α : ℕ) (γ : GName) → Seq K 𝓛 (‵ (Holds R (front-loan L n α γ) (take n ys)) ∷ ‵ (FrontOut R L n α γ ys) ∷
+      Γ)
       G) → Seq K 𝓛 (‵ (Holds R L ys) ∷ Γ) G
   lends_front t z R L n ys within k =
       use1 𝓛 (later (some (λ (p : ℕ × GName). ‵ (Holds R (front-loan L n p.0 p.1) (take n ys)) ⊛ ‵

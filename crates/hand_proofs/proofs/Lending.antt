@@ -21,7 +21,8 @@ use contract.BorrowLft.{meet_⊑_left}
 use mir.Syntax.{Lifetime}
 use mir.Val.{Val}
 use types.Logic.{Logic, sem}
-use types.Kit.{Item, Goal, Soaks, Seq, Step, step, ‵, ◌⊛◌, some, later, ◌$◌, ◌∵◌, !, qed, move, use0, use1, use2, use3, rewrite}
+use types.Kit.{Item, Goal, Soaks, Seq, Step, step, ‵, ◌⊛◌, some, later, ◌$◌, ◌∵◌, !, qed, move, use0, use1, use2, use3}
+use types.Kit.{rewrite}
 use types.Kit.{split, pick, drop, fsplit, fjoin, feq_l, frame, await, updating, now as at_once, show as witness, done}
 use types.Na.{before-Incl, before_lent}
 use types.SemTy.{cells, Arr}
@@ -93,7 +94,8 @@ module _ (R : RattleType) (L : Loan) where
   abbrev pub Relayed : Lft → List R.Denot → Fml
   Relayed κ' ys = fsep ((ShrSlice L.mark L.during R).own_val (seen_at ys) words) (flent κ' (flft L.during L.portion))
 
-  -- what a callee's contract says of the list zs that is left of a slice lent to it for κ' under the name δ, at ys: that it is the last one,
+  -- what a callee's contract says of the list zs that is left of a slice lent to it for κ' under the name δ, at ys: that it is the last
+  -- one,
   -- that it is as long, and that the borrow is closed
   abbrev pub Left-at : Lft → GName → List R.Denot → List R.Denot → Fml
   Left-at κ' δ ys zs = fsep (fsep (finally R δ zs) (feq ℕ (length zs) (length ys)))
@@ -123,14 +125,16 @@ module _ (R : RattleType) (L : Loan) where
 
     -- a `&[T]` is looked into, and shut: [a share of the row; the token's way back; the elements as they are shared]
     pub looks : K → Soaks G → Copied 𝓛 R → (ys : List R.Denot)
-        → ((s : Share) → Fits ys → Seq K 𝓛 (‵ (row R s ys L.block L.byte) ∷ Shut 𝓛 L.during L.portion (row R s ys L.block L.byte)
+        → ((s : Share) → Fits ys
+        → Seq K 𝓛 (‵ (row R s ys L.block L.byte) ∷ Shut 𝓛 L.during L.portion (row R s ys L.block L.byte)
         ∷ ‵ (fhide (elements_shared R ys L.block L.byte L.during)) ∷ Γ) G)
         → Seq K 𝓛 (‵ (Views ys) ∷ Γ) G
     looks t z copied ys k = fsplit t $ fsplit t $ pure_l t (Lies ys) (λ p.
         looks_slice t z R copied ys L.block L.byte (λ s. k s p))
 
     pub shuts : K → Soaks G → (s : Share) (ys : List R.Denot) → Fits ys
-        → Step K 𝓛 (‵ (Views ys) ∷ Γ) G (‵ (row R s ys L.block L.byte) ∷ Shut 𝓛 L.during L.portion (row R s ys L.block L.byte)
+        → Step K 𝓛 (‵ (Views ys) ∷ Γ) G (‵ (row R s ys L.block L.byte) ∷ Shut 𝓛 L.during L.portion
+        (row R s ys L.block L.byte)
         ∷ ‵ (fhide (elements_shared R ys L.block L.byte L.during)) ∷ Γ) G
     shuts t z s ys p = step (λ r. shuts_slice t z R s ys L.block L.byte $ move t (1 ∷ []) $
         pure_i t (Lies ys) (tt, (tt, tt)) p $ fjoin t $ fjoin t $ r)
@@ -159,7 +163,8 @@ module _ (R : RattleType) (L : Loan) where
     lend =
         qed 𝓛 (‵ (Holds ys) ∷ []) ∵ updating ! $ opens ! tt ys (λ p. use1 𝓛 (‵ (cells (mem R) ys b o))
         (whole_in 𝓛 R ys b o) $
-        use1 𝓛 (later (some (λ (δ : GName). ‵ ((MutSlice ℓ' κ' R).own_val (at_list δ ys) (slice_val (b, o) (length ys) ∷ [])) ⊛
+        use1 𝓛 (later (some (λ (δ : GName). ‵ ((MutSlice ℓ' κ' R).own_val (at_list δ ys) (slice_val (b, o) (length ys) ∷ []))
+        ⊛
         ‵ (flent κ' (Held R (length ys) b o δ)))))
         (lends_slice 𝓛 R ℓ' κ' ys b o p.1) $ await ! tt $
         pick ! (λ δ. split ! $ rewrite ! 0 (λ (vs : List Val). ‵ ((MutSlice ℓ' κ' R).own_val (at_list δ ys) vs)) (sym p.0) refl $
@@ -168,7 +173,8 @@ module _ (R : RattleType) (L : Loan) where
         pure_i ! (Lies ys) (tt, (tt, tt)) p $ fjoin ! $ move ! (1 ∷ 0 ∷ []) $ fjoin ! $ done !))
 
     pub regain : (δ : GName) (zs : List R.Denot)
-        → ent 𝓤 (sep 𝓤 (A.dead κ') (sep 𝓤 (sem 𝓛 (Away κ' δ ys)) (sem 𝓛 (Left-at κ' δ ys zs)))) (H.⇛ (sem 𝓛 (Holds zs)))
+        → ent 𝓤 (sep 𝓤 (A.dead κ') (sep 𝓤 (sem 𝓛 (Away κ' δ ys)) (sem 𝓛 (Left-at κ' δ ys zs))))
+        (H.⇛ (sem 𝓛 (Holds zs)))
     regain δ zs =
         qed 𝓛 (‵ (fdead κ') ∷ ‵ (Away κ' δ ys) ∷ ‵ (Left-at κ' δ ys zs) ∷ []) ∵
         updating ! $

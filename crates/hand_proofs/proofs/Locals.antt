@@ -13,7 +13,8 @@ use mathlib.Core.Path.{◌≡◌, refl, sym, subst}
 use Prim.Native.Nat.{ℕ, ◌<◌, ◌^◌}
 use mathlib.Core.List.{List, [], ◌∷◌}
 use seplogic.Ra.Ura.{Ura}
-use mir.Syntax.{Lifetime, Mutability, Ty, ty_int, ty_ref, Width, w64, int_big, Opd as Operand, deref, field, place, copy, Rv as RValue, addr_of}
+use mir.Syntax.{Lifetime, Mutability, Ty, ty_int, ty_ref, Width, w64, int_big, Opd as Operand, deref, field, place, copy, Rv as RValue}
+use mir.Syntax.{addr_of}
 use mir.Syntax.{aggregate, Body, seq, assign}
 use mir.Fields.{set_v}
 use mir.Val.{Fits, bits, Val, vint, vptr, vstruct, vnil, vcons}

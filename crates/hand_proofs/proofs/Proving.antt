@@ -35,7 +35,8 @@ use sound.WpLaws.{WpFn-mono}
 use contract.Monad.{fact}
 use contract.Running.{Running, tables, tables_of}
 use contract.Lifetimes.{Lfts, Shares, Within, lft_at, toks}
-use types.Kit.{Seq, Sq, prop, runs, at_ret, ‵, raw, ◌⊛◌, some, given, later, ⋆, pop, push, ◌$◌, ◌∵◌, !, qed, by, move, use0}
+use types.Kit.{Seq, Sq, prop, runs, at_ret, ‵, raw, ◌⊛◌, some, given, later, ⋆, pop, push, ◌$◌, ◌∵◌, !, qed, by, move}
+use types.Kit.{use0}
 use types.Kit.{use1, use2, rewrite, split, join, pick, learn, drop, fsplit, fjoin, frame, await, updating, now as at_once, show as witness}
 use types.Kit.{check, done}
 use denote.Exit.{Exit, Last, left, yes, unchanged}

@@ -1,4 +1,5 @@
--- Plain data passed by value: its machine value as a function of the value, what is had of its row for nothing, and what a `&` to it rests on.
+-- Plain data passed by value: its machine value as a function of the value, what is had of its row for nothing, and what a `&` to it rests
+-- on.
 --     by-uint, by_bool, by-unit        the builtin types
 --     by-struct, by-enum, by-array     a struct, an enum and an array of plain data, at the machine value that lowering writes
 --     stored                           its machine value can be stored in a local
@@ -137,7 +138,8 @@ stored {𝓤 = 𝓤} 𝓛 B x is = (B.lawful 𝓛).typed x (B.word x ∷ []) is
 
 -- a value of it in memory can be lent as a `&` with no token, at any lifetime: what the lender has back of it is the value as it was
 abbrev pub Lendable : RattleType → Type 2
-Lendable R = (M : Type 1) (𝓤 : Ura M) (𝓛 : Logic 𝓤) (x : R.Denot) (b o : ℕ) → Lent 𝓛 (part_at R full_share x b o) (shared_of R x b o)
+Lendable R = (M : Type 1) (𝓤 : Ura M) (𝓛 : Logic 𝓤) (x : R.Denot) (b o : ℕ)
+    → Lent 𝓛 (part_at R full_share x b o) (shared_of R x b o)
 
 pub lendable : {R : RattleType} → ByValue R → Lendable R
 lendable B M 𝓤 𝓛 = (B.shared 𝓛).lends full_share

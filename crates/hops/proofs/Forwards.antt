@@ -50,7 +50,8 @@ module _ {start : Forwarding} {hs : List Hop} where
         record {
           enough = omega (arith, less, r.enough);
           same = sym (cond-true (is_left f) (forwarded k (forwarding_after_next f)) f goes) ∙ r.same;
-          same-hops = sym (cond-true (is_left f) (forwarded_hops k (forwarding_after_next f) (set zs f.made (next_hop f))) zs goes) ∙ r.same-hops;
+          same-hops = sym (cond-true (is_left f) (forwarded_hops k (forwarding_after_next f) (set zs f.made (next_hop f))) zs goes)
+              ∙ r.same-hops;
           as_long = length-set zs f.made (next_hop f) ∙ r.as_long;
         },
       )
@@ -69,7 +70,8 @@ module _ {start : Forwarding} {hs : List Hop} where
 module _ {start : Forwarding} {hs : List Hop} where
   pub lent-turned : (k : ℕ) (o : Outgoing) (cs : List (List (List ℕ))) (zs : List Hop) → o.children < 2 ^ 32
       → T (is_left (with_pairs [] o)) → Reaches start hs k (with_pairs cs o) zs
-      → (j : ℕ) × Reaches start hs j (with_pairs (forwarding_after_next (with_pairs cs o)).pairs (without_pairs (forwarding_after_next (with_pairs [] o))))
+      → (j : ℕ) × Reaches start hs j (with_pairs (forwarding_after_next (with_pairs cs o)).pairs
+      (without_pairs (forwarding_after_next (with_pairs [] o))))
       (set zs
       o.made (next_hop (with_pairs cs o)))
   unfolding with_pairs without_pairs is_left forwarding_after_next

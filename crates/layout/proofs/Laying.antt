@@ -220,7 +220,8 @@ in_grouped : (gs : List ℕ) (k i u : ℕ) → i < k → member (get_or gs i 0) 
 unfolding grouped_within
 in_grouped gs zero i u h m = absurd (not-suc-le-zero h)
 in_grouped gs (suc k) i u h m = member_union (grouped_within k gs) (get_or gs k 0) u ∙ by_cases (ℕ_discrete i k)
-    (λ e. or_right (member (grouped_within k gs) u) (member (get_or gs k 0) u) (subst (λ (x : ℕ). member (get_or gs x 0) u ≡ true) e m))
+    (λ e. or_right (member (grouped_within k gs) u) (member (get_or gs k 0) u) (subst (λ (x : ℕ). member (get_or gs x 0) u ≡ true) e
+    m))
     (λ e. or_left (member (grouped_within k gs) u) (member (get_or gs k 0) u) (in_grouped gs k i u (omega arith) m))
 
 grouped_below : (gs : List ℕ) → Table gs → (k : ℕ) → grouped_within k gs < 2 ^ 32

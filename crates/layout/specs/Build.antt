@@ -1,6 +1,7 @@
 -- Rules of a built forest (document 01, "A built forest"). Definitions only.
 -- gs is a table of 24 groups, empty at the places that do not count; live is the set of the groups that are not set aside.
-use Rattle.std.specs.Prelude.{◌≡◌, ◌⊎◌, ℕ, zero, suc, ◌≤◌, ◌<◌, ◌^◌, Bool, true, not, ◌&&◌, ◌||◌, cond, List, get_or, ltb, eqb}
+use Rattle.std.specs.Prelude.{◌≡◌, ◌⊎◌, ℕ, zero, suc, ◌≤◌, ◌<◌, ◌^◌, Bool, true, not, ◌&&◌, ◌||◌}
+use Rattle.std.specs.Prelude.{cond, List, get_or, ltb, eqb}
 use Rattle.sets.specs.Sets.{member, single, union, intersection, difference, excluding, size, collect, below}
 use Rattle.layout.specs.Tables.{tabulate}
 

@@ -117,31 +117,32 @@ module _ (units : ℕ) (rest : List ℕ) where
 
     -- the entries that were read, and their fault f
     module _ (small : units < 256) (other : is_word build_word (take (end - 8) (drop 8 rest)) ≡ false) (s : Entries) (f : ℕ)
-        (was : s ≡ foldl (with_entry units) no_entries (entries_in (take (end - 8) (drop 8 rest)))) (said : f ≡ entries_fault s units) where
-      es : List ℕ
-      es = entries_in (take (end - 8) (drop 8 rest))
+        (was : s ≡ foldl (with_entry units) no_entries (entries_in (take (end - 8) (drop 8 rest)))) (said : f ≡ entries_fault s units)
+      where
+        es : List ℕ
+        es = entries_in (take (end - 8) (drop 8 rest))
 
-      fault_said : refuse (some (ltb 65536) es) 4 (refuse (some (ltb units) es) 6 (refuse (not (eqb (length es) units)) 8 0)) ≡ f
-      unfolding es
-      fault_said = sym (said ∙ ap (λ (x : Entries). entries_fault x units) was ∙ read_fault units es small)
+        fault_said : refuse (some (ltb 65536) es) 4 (refuse (some (ltb units) es) 6 (refuse (not (eqb (length es) units)) 8 0)) ≡ f
+        unfolding es
+        fault_said = sym (said ∙ ap (λ (x : Entries). entries_fault x units) was ∙ read_fault units es small)
 
-      fault_there : fault_at (parents_fault units) rest ≡ f
-      unfolding parents_fault refuse es
-      fault_there = fault_line (parents_fault units) rest found.inside ∙ simp (found.key_there, ← value_there, other) fault_said
+        fault_there : fault_at (parents_fault units) rest ≡ f
+        unfolding parents_fault refuse es
+        fault_there = fault_line (parents_fault units) rest found.inside ∙ simp (found.key_there, ← value_there, other) fault_said
 
-      pub drawing-faulty : (f ≡ 0 → ⊥) → drawing_at units rest ≡ no_drawing f 0 false
-      drawing-faulty n = faulty f fault_there n
+        pub drawing-faulty : (f ≡ 0 → ⊥) → drawing_at units rest ≡ no_drawing f 0 false
+        drawing-faulty n = faulty f fault_there n
 
-      pub drawing-drawn : f ≡ 0 → drawing_at units rest ≡ record { fault = 0; used = end + 1; build = false; parents = s.parents }
-      unfolding parents_in is_build parents_table es
-      drawing-drawn z =
-          let bad = refuse-none (some (ltb 65536) es) 3 _ (fault_said ∙ z) in
-          let outside = refuse-none (some (ltb units) es) 5 _ bad.1 in
-          let count = refuse-none (not (eqb (length es) units)) 7 0 outside.1 in
-          let l : length es ≡ units = eqb-true (length es) units (not-false (eqb (length es) units) count.0) in
-          let parents : s.parents ≡ tabulate 32 (λ u. get_or (map parent_of es) u 255) =
-          ap (λ (x : Entries). x.parents) was
-          ∙ read-parents units es (omega arith)
-          ∙ ap (λ (ps : List ℕ). tabulate 32 (λ u. get_or ps u 255)) (bytes-are units es small outside.0)
-          in
-          good (Drawn (map parent_of es)) (fault_there ∙ z) (simp (← value_there, other)) ∙ cc (found.place, add-one end)
+        pub drawing-drawn : f ≡ 0 → drawing_at units rest ≡ record { fault = 0; used = end + 1; build = false; parents = s.parents }
+        unfolding parents_in is_build parents_table es
+        drawing-drawn z =
+            let bad = refuse-none (some (ltb 65536) es) 3 _ (fault_said ∙ z) in
+            let outside = refuse-none (some (ltb units) es) 5 _ bad.1 in
+            let count = refuse-none (not (eqb (length es) units)) 7 0 outside.1 in
+            let l : length es ≡ units = eqb-true (length es) units (not-false (eqb (length es) units) count.0) in
+            let parents : s.parents ≡ tabulate 32 (λ u. get_or (map parent_of es) u 255) =
+            ap (λ (x : Entries). x.parents) was
+            ∙ read-parents units es (omega arith)
+            ∙ ap (λ (ps : List ℕ). tabulate 32 (λ u. get_or ps u 255)) (bytes-are units es small outside.0)
+            in
+            good (Drawn (map parent_of es)) (fault_there ∙ z) (simp (← value_there, other)) ∙ cc (found.place, add-one end)

@@ -52,7 +52,8 @@ none_from n k (m ∷ ns) l h =
     let p = none-parts (leb n) m ns h
     in none_cons (leb k) m ns (lt-leb k m (lt_of_lt_of_le (leb-false n m p.0) l)) (none_from n k ns l p.1)
 
-pub none-at : (f : ℕ → Bool) (d : ℕ) (ns : List ℕ) (u : ℕ) → f d ≡ false → some f ns ≡ false → f (get_or ns u d) ≡ false
+pub none-at : (f : ℕ → Bool) (d : ℕ) (ns : List ℕ) (u : ℕ) → f d ≡ false → some f ns ≡ false → f (get_or ns u d)
+    ≡ false
 none-at f d [] u e h = e
 none-at f d (n ∷ ns) zero e h = (none-parts f n ns h).0
 none-at f d (n ∷ ns) (suc u) e h = none-at f d ns u e (none-parts f n ns h).1

@@ -50,7 +50,8 @@ member-above : (n u : ℕ) (line : List ℕ) → Above group_key u 65535 line �
 unfolding group_fault refuse
 member-above n u line a = simp (a.begins, some-above 65535 (numbers_in (after group_key line)) u a.above)
 
-parent_above : (n u : ℕ) (line : List ℕ) → starts_with parents_key line ≡ true → is_word build_word (after parents_key line) ≡ false
+parent_above : (n u : ℕ) (line : List ℕ) → starts_with parents_key line ≡ true → is_word build_word (after parents_key line)
+    ≡ false
     → 65536 < get_or (entries_in (after parents_key line)) u 0 → parents_fault n line ≡ 4
 unfolding parents_fault refuse
 parent_above n u line s w h = simp (s, w, some-above 65536 (entries_in (after parents_key line)) u h)

@@ -56,15 +56,16 @@ group-missing rest end units e l =
 
 -- the members m read from the value of the line, and their fault f
 module _ (rest : List ℕ) (end units : ℕ) (found : Found group_key rest end) (m : Members) (f : ℕ)
-    (read : m ≡ foldl (with_member units) no_members (numbers_in (after group_key (first_line rest)))) (said : f ≡ members_fault m) where
-  group-fault : group_fault units (first_line rest) ≡ f
-  unfolding group_fault refuse
-  group-fault = rw (found.key_there, said, read, fault_is)
+    (read : m ≡ foldl (with_member units) no_members (numbers_in (after group_key (first_line rest)))) (said : f ≡ members_fault m)
+  where
+    group-fault : group_fault units (first_line rest) ≡ f
+    unfolding group_fault refuse
+    group-fault = rw (found.key_there, said, read, fault_is)
 
-  pub group-faulty : (f ≡ 0 → ⊥) → field_at (group_fault units) group_in rest ≡ no_field f
-  group-faulty n = found-faulty (group_fault units) group_in rest group_key end found f group-fault n
+    pub group-faulty : (f ≡ 0 → ⊥) → field_at (group_fault units) group_in rest ≡ no_field f
+    group-faulty n = found-faulty (group_fault units) group_in rest group_key end found f group-fault n
 
-  pub group-good : f ≡ 0 → field_at (group_fault units) group_in rest ≡ record { fault = 0; used = end + 1; value = m.set }
-  unfolding group_in no_members
-  group-good z = found-good (group_fault units) group_in rest group_key end found m.set (group-fault ∙ z)
-      (ap (λ (x : Members). x.set) read ∙ set_is units (numbers_in (after group_key (first_line rest))) no_members)
+    pub group-good : f ≡ 0 → field_at (group_fault units) group_in rest ≡ record { fault = 0; used = end + 1; value = m.set }
+    unfolding group_in no_members
+    group-good z = found-good (group_fault units) group_in rest group_key end found m.set (group-fault ∙ z)
+        (ap (λ (x : Members). x.set) read ∙ set_is units (numbers_in (after group_key (first_line rest))) no_members)

@@ -98,7 +98,8 @@ pub record EntriesOf (n : ℕ) (es ps : List ℕ) : Type 0 where
   pub low : some (ltb n) es ≡ false
   pub are : map parent_of es ≡ ps
 
-texts_entries : (n : ℕ) (ps : List ℕ) → n ≤ 32 → ((u : ℕ) → u < length ps → (get_or ps u 255 ≡ 255) ⊎ (get_or ps u 255 < n))
+texts_entries : (n : ℕ) (ps : List ℕ) → n ≤ 32
+    → ((u : ℕ) → u < length ps → (get_or ps u 255 ≡ 255) ⊎ (get_or ps u 255 < n))
     → EntriesOf n (map entry (map parent_text ps)) ps
 unfolding some
 texts_entries n [] f h = record { low = refl; are = refl }

@@ -127,7 +127,8 @@ event-said k line h =
     (either (starts_with send_key line))
     in (r.0, r.1, c)
 
-pub event-read : (k : ℕ) (e : Event) → k < 3000 → GoodEvent e → (event_fault k (event_line e) ≡ 0) × (event_in (event_line e) ≡ e)
+pub event-read : (k : ℕ) (e : Event) → k < 3000 → GoodEvent e → (event_fault k (event_line e) ≡ 0) × (event_in (event_line e)
+    ≡ e)
 unfolding event_fault event_line event_in bad_send refuse starts_with send_key arrive_key
 event-read k (Send s g w) l (a, b, c) =
     let v = commas (decimal s ∷ decimal g ∷ decimal w ∷ []) in

@@ -63,14 +63,16 @@ module _ (rest : List ℕ) where
   event-other h s a = event-faulty 3 (fault_is 3 h (simp (s, a))) (eqb-false 3 0 refl)
 
   line-send : place_of 10 rest < length rest → starts_with send_key (first_line rest) ≡ true
-      → event_at rest ≡ send_event (foldl with_number no_numbers (numbers_in (after send_key (first_line rest)))) (suc (place_of 10 rest))
+      → event_at rest ≡ send_event (foldl with_number no_numbers (numbers_in (after send_key (first_line rest))))
+      (suc (place_of 10 rest))
   unfolding event_fault refuse event_in event_numbers
   line-send h s =
       let ns = numbers_in (after send_key (first_line rest)) in
       ⊎_elim
       (λ (b : bad_send ns ≡ true). event-faulty 4 (fault_is 4 h (simp (s, b))) (eqb-false 4 0 refl) ∙ sym (send-is _ ns ∙ simp b))
       (λ (b : bad_send ns ≡ false).
-      event-good (suc (get_or ns 0 0)) (get_or ns 1 0) (get_or ns 2 0) (fault_is 0 h (simp (s, b))) (simp s) ∙ sym (send-is _ ns ∙ simp b))
+      event-good (suc (get_or ns 0 0)) (get_or ns 1 0) (get_or ns 2 0) (fault_is 0 h (simp (s, b))) (simp s)
+      ∙ sym (send-is _ ns ∙ simp b))
       (either (bad_send ns))
 
   line-arrive : place_of 10 rest < length rest → starts_with send_key (first_line rest) ≡ false

@@ -56,7 +56,8 @@ module _ (most : ℕ) (below : most < not_a_number) where
   numbers-written v h =
       ap (join 44) (map-again number decimal number (ltb most) (decimal-number most below) (split 44 v) h) ∙ join-split 44 v
 
-  pub numbers-read : (ns : List ℕ) → (ns ≡ [] → ⊥) → some (ltb most) ns ≡ false → numbers_in (commas (map decimal ns)) ≡ ns
+  pub numbers-read : (ns : List ℕ) → (ns ≡ [] → ⊥) → some (ltb most) ns ≡ false → numbers_in (commas (map decimal ns))
+      ≡ ns
   unfolding numbers_in
   numbers-read ns f h =
       ap (map number) (split-commas decimal ns (λ n. decimal-without 44 n refl) f)

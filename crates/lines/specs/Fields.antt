@@ -1,6 +1,7 @@
 -- What the functions of this crate compute: a line at the start of the rest of a file, its fault, and what it says where it has none.
 -- Definitions only.
-use Rattle.std.specs.Prelude.{ℕ, suc, ◌-◌, Bool, false, not, ◌||◌, cond, List, length, get_or, take, set, replicate, ltb, leb, eqb}
+use Rattle.std.specs.Prelude.{ℕ, suc, ◌-◌, Bool, false, not, ◌||◌, cond, List, length, get_or, take, set, replicate, ltb, leb}
+use Rattle.std.specs.Prelude.{eqb}
 use Rattle.sets.specs.Sets.{including}
 use Rattle.text.specs.Text.{starts_with}
 use Rattle.text.specs.Writing.{place_of}

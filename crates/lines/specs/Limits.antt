@@ -17,7 +17,8 @@ pub record PlacesLimited : Type 0 where
   pub groups : (line : List ℕ) → Above groups_key 0 65535 line → groups_fault line ≡ 4
   pub member : (n u : ℕ) (line : List ℕ) → Above group_key u 65535 line → group_fault n line ≡ 4
   -- an entry is one more than the parent's number, and 0 for a root
-  pub parent : (n u : ℕ) (line : List ℕ) → starts_with parents_key line ≡ true → is_word build_word (after parents_key line) ≡ false
+  pub parent : (n u : ℕ) (line : List ℕ) → starts_with parents_key line ≡ true → is_word build_word (after parents_key line)
+      ≡ false
       → 65536 < get_or (entries_in (after parents_key line)) u 0 → parents_fault n line ≡ 4
   pub source : (k : ℕ) (line : List ℕ) → Above send_key 0 65534 line → event_fault k line ≡ 4
   pub group : (k : ℕ) (line : List ℕ) → Above send_key 1 65535 line → event_fault k line ≡ 4

@@ -81,6 +81,7 @@ fn read_numbers(value: &[u8]) -> Triple
 }
 
 // What the numbers of a send say: source+1, group, word.
+#[tactic(auto, unfolding(crate::specs::Fields::send_event))]
 fn send(t: Triple, used: usize) -> EventField
     ensures { result ≡ send_event t used }
 {
@@ -106,6 +107,7 @@ fn send(t: Triple, used: usize) -> EventField
 }
 
 // What the number of an arrive says: 0, hop, 0.
+#[tactic(auto, unfolding(crate::specs::Fields::arrive_event))]
 fn arrive(hop: u64, used: usize) -> EventField
     ensures { result ≡ arrive_event hop used }
 {

@@ -20,7 +20,8 @@ use Rattle.benchfile.specs.File.{File, Outcome, Refused as RefusedFile, Good, re
 use Rattle.benchfile.specs.Calls.{content_of}
 use Rattle.benchfile.proofs.RoundTrip.{read-good}
 use Rattle.benchfile.proofs.WrittenLines.{ended_append}
-use Rattle.output_lines.specs.Output.{refused_key, log_key, hops_key, rest_key, answer_word, refused_line, message_texts, log_line, hops_line}
+use Rattle.output_lines.specs.Output.{refused_key, log_key, hops_key, rest_key, answer_word, refused_line, message_texts, log_line}
+use Rattle.output_lines.specs.Output.{hops_line}
 use Rattle.output_lines.specs.Output.{rest_line}
 use Rattle.runner.specs.Printed.{forest_refusal, plan_of, call_for, result_of_run, on_forest, result_of, result, refused_as, refused_events}
 use Rattle.runner.specs.Printed.{log_lines, run_lines, result_lines, printed}

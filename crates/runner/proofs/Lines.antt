@@ -11,7 +11,8 @@ use lib.Dec.{ltb, eqb}
 use borrow.Author.Tests.{ltb-false}
 use Rattle.sets.proofs.Bools.{either}
 use Rattle.text.specs.Text.{split, in_front}
-use Rattle.lines.specs.Lines.{refuse, units_key, groups_key, count_in, units_fault, groups_fault, group_fault, group_in, parents_fault, parents_in}
+use Rattle.lines.specs.Lines.{refuse, units_key, groups_key, count_in, units_fault, groups_fault, group_fault, group_in, parents_fault}
+use Rattle.lines.specs.Lines.{parents_in}
 use Rattle.lines.specs.Lines.{event_fault, event_in}
 use Rattle.lines.proofs.Faults.{FaultNumber}
 use Rattle.lines.proofs.RoundTrip.{count_fault-number, group_fault-number, parents_fault-number, event_fault-number}

@@ -12,7 +12,8 @@ use Rattle.runner.specs.Printed.{log_lines}
 
 module _ (n u : ℕ) (logs : ℕ → List ℕ) where
   -- the log of u, and those after it
-  pub logs-next : u < n → ended (drop u (log_lines n logs)) ≡ (log_line u (logs u) ++ 10 ∷ []) ++ ended (drop (u + 1) (log_lines n logs))
+  pub logs-next : u < n → ended (drop u (log_lines n logs)) ≡ (log_line u (logs u) ++ 10 ∷ [])
+      ++ ended (drop (u + 1) (log_lines n logs))
   unfolding log_lines ended
   logs-next h =
       let some : u < length (log_lines n logs) = rw length-tabulate h in

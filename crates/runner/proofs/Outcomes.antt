@@ -25,7 +25,8 @@ use Rattle.output_lines.specs.Output.{refused_line}
 use Rattle.runner.specs.declared.RunAnswer.{RunAnswer}
 use Rattle.runner.specs.declared.RunReply.TheVariants.{ListTooShort}
 use Rattle.runner.specs.declared.results.Totals.{Totals}
-use Rattle.runner.specs.Printed.{Result, RefusedAt, forest_refusal, forest_parents, result_of_run, on_forest, result_of, result, result_lines}
+use Rattle.runner.specs.Printed.{Result, RefusedAt, forest_refusal, forest_parents, result_of_run, on_forest, result_of, result}
+use Rattle.runner.specs.Printed.{result_lines}
 use Rattle.runner.specs.Printed.{printed, taken_by, run_answer, output_short, RunPromise}
 use Rattle.runner.specs.Steps.{number_of, line_of, count_of, BenchRun, PrintedAs, ContentRun}
 use Rattle.runner.proofs.Lines.{refusal-line}
@@ -51,7 +52,8 @@ no_number (NoPrimary g) e = absurd (suc-ne-zero _ e)
 -- n is the number of the forest's verdict
 module _ {c : Content} {line n : ℕ} {list out left : List ℕ} {r : RunAnswer} (v : Verdict) (same : refusal v ≡ forest_refusal c)
     (is : n ≡ number_in (refusal v)) where
-  pub content-refused : (n ≡ 0 → ⊥) → PrintedAs (refused_line line n ++ 10 ∷ []) 0 out r left → ContentRun c line list out r left
+  pub content-refused : (n ≡ 0 → ⊥) → PrintedAs (refused_line line n ++ 10 ∷ []) 0 out r left
+      → ContentRun c line list out r left
   content-refused some P = record {
     refused = λ number values e. subst (λ (k : ℕ). PrintedAs (refused_line line k ++ 10 ∷ []) 0 out r left)
         (is ∙ ap number_in (same ∙ e)) P;

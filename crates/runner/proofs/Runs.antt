@@ -35,7 +35,8 @@ use Rattle.benchfile.specs.Calls.{numbers_of}
 use Rattle.benchfile.specs.declared.Content.{Content}
 use Rattle.benchfile.proofs.WrittenLines.{ended_append}
 use Rattle.output_lines.specs.Output.{hops_line, rest_line}
-use Rattle.runner.specs.Printed.{Result, RanFrom, forest_refusal, forest_parents, plan_of, call_for, result_of_run, refused_events, log_lines}
+use Rattle.runner.specs.Printed.{Result, RanFrom, forest_refusal, forest_parents, plan_of, call_for, result_of_run, refused_events}
+use Rattle.runner.specs.Printed.{log_lines}
 use Rattle.runner.specs.Printed.{run_lines, result_lines, taken_by}
 use Rattle.runner.specs.Steps.{begun_with, HandsBack, says_rest, Finished, BenchRun}
 use Rattle.runner.specs.declared.events.Progress.{Progress}

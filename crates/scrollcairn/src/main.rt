@@ -2,17 +2,20 @@
 // read, so that a file which is too long is seen to be.
 #![tactic(auto)]
 
-use libc::{STDIN_FILENO, STDOUT_FILENO};
 use runner::{RunAnswer, RunReply};
+use std::io;
+use std::io::Read;
 
-fn main() {
+fn main(rt: HostRuntime) -> io::Result<()> {
     let mut file = [0u8; 32769];
     let mut out = [0u8; RunAnswer::OUTPUT];
-    let size = io::read_full(STDIN_FILENO, &mut file);
+    // `copy` says nothing of how much came, hence `min`
+    let read = io::copy(&mut rt.stdin().take(32769), &mut file.as_mut_slice())?;
+    let size = read.min(32769) as usize;
     let answer = runner::run(&file[..size], &mut out);
     let reply = answer.reply;
     let RunReply::Printed(bytes) = reply else {
-        return;
+        return Ok(());
     };
-    io::write_all(STDOUT_FILENO, &out[..bytes]);
+    rt.write_all(&out[..bytes])
 }

@@ -118,7 +118,7 @@ pub fn look(short: bool, units: usize, groups: &[u32], count: usize, parents: &[
     let reply = reply_of(short, verdict);
     Opening {
         groups: table,
-        parents: drawn,
+        parents: accepted,
         reply,
     }
 }

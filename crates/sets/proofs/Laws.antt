@@ -2,7 +2,8 @@
 use mathlib.Core.Path.{◌≡◌, refl, sym, ap, ap₂, subst, ◌∙◌}
 use mathlib.Core.Logic.{◌⊎◌, inl, inr, ⊎_elim, by_cases}
 use mathlib.Core.Bool.{Bool, true, false, not, ◌&&◌, ◌||◌, cond, or-false, and-false, and-true}
-use Prim.Native.Nat.{ℕ, zero, suc, ◌+◌, ◌-◌, ◌*◌, ◌/◌, ◌%◌, ◌^◌, ◌≤◌, ◌<◌, min, max, zero-le, suc-le-suc}
+use Prim.Native.Nat.{ℕ, zero, suc, ◌+◌, ◌-◌, ◌*◌, ◌/◌, ◌%◌, ◌^◌, ◌≤◌, ◌<◌, min, max, zero-le}
+use Prim.Native.Nat.{suc-le-suc}
 use native.Mathlib.Nat.{div-one, div-div-eq-div-mul, pow-suc, mul_comm, mod-lt, le_of_suc-le-suc, zero-lt-suc, not-suc-le-zero}
 use native.Mathlib.Nat.{lt_of_le_of_lt, le_trans, zero-div, one-mul, mod-eq_of_lt, le-suc, le_of_eq, le_refl}
 use native.Mathlib.Omega.{arith}

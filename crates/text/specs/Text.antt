@@ -1,6 +1,7 @@
 -- Rules of text (document 01, its first paragraph and "The bench file"; document 02, #101): decimal numbers, and lists with a separator. A
 -- text is a list of bytes. Definitions only.
-use Rattle.std.specs.Prelude.{ℕ, zero, suc, ◌+◌, ◌-◌, ◌*◌, ◌/◌, ◌%◌, Bool, true, false, ◌&&◌, cond, length, drop, ltb, leb, eqb}
+use Rattle.std.specs.Prelude.{ℕ, zero, suc, ◌+◌, ◌-◌, ◌*◌, ◌/◌, ◌%◌, Bool, true, false, ◌&&◌, cond, length}
+use Rattle.std.specs.Prelude.{drop, ltb, leb, eqb}
 use mathlib.Core.List.{List, [], ◌∷◌, ◌++◌, foldl}
 
 -- ---- decimal numbers

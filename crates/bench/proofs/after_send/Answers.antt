@@ -1,5 +1,4 @@
 -- The bench is what `with_lists` ensures.
-use borrow.Author.Rules.{rules}
 use Rattle.bench.specs.Lists.{sent_with}
 use Rattle.bench.proofs.after_send.Goals as goal
 

@@ -1,5 +1,4 @@
 -- The bench is what `empty` ensures, and the test is the rule's.
-use borrow.Author.Rules.{rules}
 use Rattle.bench.specs.Lists.{fresh_with}
 use Rattle.bench.proofs.begun.Goals as goal
 

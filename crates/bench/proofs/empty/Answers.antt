@@ -1,5 +1,4 @@
 -- The tables and the counts are what the functions that make them ensure.
-use borrow.Author.Rules.{rules}
 use lib.ListN.{replicate}
 use Rattle.bench_store.specs.Values.{no_counts}
 use Rattle.bench.specs.Lists.{empty_bench}

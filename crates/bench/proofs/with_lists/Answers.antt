@@ -1,5 +1,4 @@
 -- The counts are what `of_grids` ensures; the other fields are given.
-use borrow.Author.Rules.{rules}
 use Rattle.bench.specs.Lists.{with_lists}
 use Rattle.bench.proofs.with_lists.Goals as goal
 

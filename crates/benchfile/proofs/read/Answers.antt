@@ -25,7 +25,8 @@ pub returns-then-tally-ne0 : goal.returns-then-tally-ne0
 returns-then-tally-ne0 c =
     let bad = c in let tally = bad in
     let read = tally in let head = read in let start = head in
-    events-turned _ _ start.if-list-lt9000.false (omega arith) head.read_heading-head.ensures read.if-head-ne0.false tally.store-tally.ensures
+    events-turned _ _ start.if-list-lt9000.false (omega arith) head.read_heading-head.ensures read.if-head-ne0.false
+    tally.store-tally.ensures
     bad.if-tally-ne0.true c.fault_reply-then-tally-ne0.ensures c.turned_away-then-tally-ne0.ensures
 
 pub overflow_sub-result : goal.overflow_sub-result

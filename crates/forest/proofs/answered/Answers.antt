@@ -1,4 +1,3 @@
-use borrow.Author.Rules.{rules}
 use mathlib.Core.Path.{refl, sym, ◌∙◌}
 use Rattle.sets.proofs.Bools.{cond-true, cond-false}
 use Rattle.forest.specs.Calls.{accepts}

@@ -1,4 +1,3 @@
-use borrow.Author.Rules.{rules}
 use mathlib.Core.Path.{◌≡◌, ap, ◌∙◌}
 use Rattle.layout.specs.Build.{built}
 use Rattle.forest.specs.Calls.{drawn, counted, build_refusal, build_parents}
@@ -16,4 +15,4 @@ returns c =
     c.counted-table.result
     ∙ ap (built a.units) counts in
     let answers = c.answered.ensures in
-    (rw (← counts, answers.0) judges, rw (← lays, ← counts, ← judges) answers.1)
+    record { refused = rw (← counts, answers.0) judges; answered = rw (← lays, ← counts, ← judges) answers.1 }

@@ -1,4 +1,3 @@
-use borrow.Author.Rules.{rules}
 use Rattle.forest.specs.Calls.{check_refusal, check_parents}
 use Rattle.forest.proofs.check.Goals as goal
 
@@ -9,4 +8,4 @@ returns c =
     let draws = c.drawn-forest.ensures in
     let judges = c.judge-verdict.ensures in
     let answers = c.answered.ensures in
-    (rw (← counts, ← draws, answers.0) judges, rw (← counts, ← draws, ← judges) answers.1)
+    record { refused = rw (← counts, ← draws, answers.0) judges; answered = rw (← counts, ← draws, ← judges) answers.1 }

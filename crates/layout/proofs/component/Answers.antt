@@ -1,8 +1,6 @@
-use borrow.Author.Rules.{rules}
 use mathlib.Core.Path.{◌≡◌, sym, ap, ◌∙◌}
 use Prim.Native.Nat.{ℕ, suc, ◌-◌}
 use native.Mathlib.Omega.{arith}
-use Rattle.sets.specs.Sets.{single}
 use Rattle.layout.specs.Build.{rounds, component}
 use Rattle.layout.proofs.Parts.{rounds_fixed}
 use Rattle.layout.proofs.component.Goals as goal

@@ -1,10 +1,5 @@
-use borrow.Author.Rules.{rules}
-use mathlib.Core.Path.{◌≡◌, sym, ap, ◌∙◌}
-use Prim.Native.Nat.{ℕ, suc, ◌-◌}
-use native.Mathlib.Omega.{arith}
-use Rattle.sets.specs.Sets.{single}
+use mathlib.Core.Path.{◌≡◌}
 use Rattle.layout.specs.Build.{rounds, component}
-use Rattle.layout.proofs.Parts.{rounds_fixed}
 use Rattle.layout.proofs.component.Given as goal
 
 -- what is left to spread leads to the component

@@ -1,16 +1,14 @@
-use borrow.Author.Rules.{rules}
-use mathlib.Core.Path.{◌≡◌, refl, ap, ◌∙◌}
+use mathlib.Core.Path.{refl, ap, ◌∙◌}
 use mathlib.Core.List.{List}
-use Prim.Native.Nat.{ℕ, ◌<◌}
+use Prim.Native.Nat.{ℕ}
 use lib.Dec.{lit≤}
 use lib.ListN.{set}
-use Rattle.sets.specs.Sets.{size, lowest}
-use Rattle.sets.proofs.Members.{Left, left-all, next-member, left-turn, left_less, visits_start, visits_turn, visits_end}
+use Rattle.sets.proofs.Members.{left-all, next-member, left-turn, left_less, visits_start, visits_turn, visits_end}
 use Rattle.layout.specs.Tables.{tabulate}
 use Rattle.layout.specs.Build.{degree}
 use Rattle.layout.specs.Layout.{degrees_of}
 use Rattle.layout.proofs.Tables.{get_d_tabulate}
-use Rattle.layout.proofs.Loops.{updated, updated_none, updated-still, updated-turn, updated-all}
+use Rattle.layout.proofs.Loops.{updated_none, updated-still, updated-turn, updated-all}
 use Rattle.layout.proofs.degrees.Goals as goal
 
 pub loop-left-init : goal.loop-left-init
@@ -24,11 +22,8 @@ pub degree-requires : goal.degree-requires
 degree-requires c = c.requires
 
 -- the next member is a unit
-unit : (c : tie.After-lowest invariant-loop decreases-loop) → c.lowest-u.result < 32
-unit c = (next-member c.loop-left.invariant.0 c.loop-left-test.true c.lowest-u.ensures).0
-
 pub bounds-table-u : goal.bounds-table-u
-bounds-table-u c = unit c
+bounds-table-u c = (next-member c.loop-left.invariant.0 c.loop-left-test.true c.lowest-u.ensures).0
 
 pub loop-left-smaller : goal.loop-left-smaller
 loop-left-smaller c =

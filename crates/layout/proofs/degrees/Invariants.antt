@@ -1,16 +1,8 @@
-use borrow.Author.Rules.{rules}
-use mathlib.Core.Path.{◌≡◌, refl, ap, ◌∙◌}
-use mathlib.Core.List.{List}
-use Prim.Native.Nat.{ℕ, ◌<◌}
-use lib.Dec.{lit≤}
-use lib.ListN.{set}
+use mathlib.Core.Path.{◌≡◌}
 use Rattle.sets.specs.Sets.{size, lowest}
-use Rattle.sets.proofs.Members.{Left, left-all, next-member, left-turn, left_less, visits_start, visits_turn, visits_end}
-use Rattle.layout.specs.Tables.{tabulate}
+use Rattle.sets.proofs.Members.{Left}
 use Rattle.layout.specs.Build.{degree}
-use Rattle.layout.specs.Layout.{degrees_of}
-use Rattle.layout.proofs.Tables.{get_d_tabulate}
-use Rattle.layout.proofs.Loops.{updated, updated_none, updated-still, updated-turn, updated-all}
+use Rattle.layout.proofs.Loops.{updated}
 use Rattle.layout.proofs.degrees.Given as goal
 
 abbrev pub invariant-loop-left : goal.invariant-loop-left

@@ -1,11 +1,10 @@
-use borrow.Author.Rules.{rules}
 use mathlib.Core.Path.{refl, ap, ◌∙◌}
-use Prim.Native.Nat.{ℕ, ◌-◌}
+use Prim.Native.Nat.{ℕ}
 use native.Mathlib.Omega.{arith}
 use lib.ListN.{get_or}
 use Rattle.sets.specs.Sets.{union}
 use Rattle.layout.specs.Layout.{grouped_within}
-use Rattle.layout.proofs.Loops.{Reached, reached-turn, reached-all}
+use Rattle.layout.proofs.Loops.{reached-turn, reached-all}
 use Rattle.layout.proofs.grouped.Goals as goal
 
 pub loop-i-init : goal.loop-i-init

@@ -1,11 +1,6 @@
-use borrow.Author.Rules.{rules}
-use mathlib.Core.Path.{refl, ap, ◌∙◌}
-use Prim.Native.Nat.{ℕ, ◌-◌}
-use native.Mathlib.Omega.{arith}
-use lib.ListN.{get_or}
-use Rattle.sets.specs.Sets.{union}
+use Prim.Native.Nat.{◌-◌}
 use Rattle.layout.specs.Layout.{grouped_within}
-use Rattle.layout.proofs.Loops.{Reached, reached-turn, reached-all}
+use Rattle.layout.proofs.Loops.{Reached}
 use Rattle.layout.proofs.grouped.Given as goal
 
 abbrev pub invariant-loop-i : goal.invariant-loop-i

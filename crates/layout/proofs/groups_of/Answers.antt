@@ -1,7 +1,5 @@
-use borrow.Author.Rules.{rules}
-use Prim.Native.Nat.{◌-◌}
 use Rattle.layout.specs.Build.{holds_at, groups_of}
-use Rattle.layout.proofs.Loops.{Collected, collected_none, collected_turn, reached-all}
+use Rattle.layout.proofs.Loops.{collected_none, collected_turn, reached-all}
 use Rattle.layout.proofs.groups_of.Goals as goal
 
 pub loop-i-init : goal.loop-i-init

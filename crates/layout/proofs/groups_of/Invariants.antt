@@ -1,7 +1,6 @@
-use borrow.Author.Rules.{rules}
 use Prim.Native.Nat.{◌-◌}
-use Rattle.layout.specs.Build.{holds_at, groups_of}
-use Rattle.layout.proofs.Loops.{Collected, collected_none, collected_turn, reached-all}
+use Rattle.layout.specs.Build.{holds_at}
+use Rattle.layout.proofs.Loops.{Collected}
 use Rattle.layout.proofs.groups_of.Given as goal
 
 abbrev pub invariant-loop-i : goal.invariant-loop-i

@@ -1,8 +1,5 @@
-use borrow.Author.Rules.{rules}
-use Prim.Native.Nat.{◌-◌}
-use lib.ListN.{get_or}
-use Rattle.layout.specs.Layout.{lies_in, inside_of}
-use Rattle.layout.proofs.Loops.{Collected, collected_none, collected_turn, reached-all}
+use Rattle.layout.specs.Layout.{inside_of}
+use Rattle.layout.proofs.Loops.{collected_none, collected_turn, reached-all}
 use Rattle.layout.proofs.inside.Goals as goal
 
 pub loop-i-init : goal.loop-i-init

@@ -1,8 +1,7 @@
-use borrow.Author.Rules.{rules}
 use Prim.Native.Nat.{◌-◌}
 use lib.ListN.{get_or}
-use Rattle.layout.specs.Layout.{lies_in, inside_of}
-use Rattle.layout.proofs.Loops.{Collected, collected_none, collected_turn, reached-all}
+use Rattle.layout.specs.Layout.{lies_in}
+use Rattle.layout.proofs.Loops.{Collected}
 use Rattle.layout.proofs.inside.Given as goal
 
 abbrev pub invariant-loop-i : goal.invariant-loop-i

@@ -1,10 +1,8 @@
-use borrow.Author.Rules.{rules}
-use mathlib.Core.Logic.{⊎_elim}
-use Rattle.sets.specs.Sets.{size}
 use Rattle.sets.proofs.Members.{next-member, left_less}
 use Rattle.layout.specs.Layout.{degree_in}
-use Rattle.layout.proofs.Roots.{Best, best-first, best-next, best-still, best-end}
+use Rattle.layout.proofs.Roots.{best-first, best-next, best-still, best-end}
 use Rattle.layout.proofs.root.Goals as goal
+use Rattle.layout.proofs.root.Goals.{then-degrees-r, else-degrees-r}
 
 pub loop-left-init : goal.loop-left-init
 loop-left-init c =
@@ -28,14 +26,14 @@ loop-left-smaller c =
 pub loop-left-preserved : goal.loop-left-preserved
 unfolding degree_in
 loop-left-preserved c =
-    let next = c in
-    let turn = next in
-    let inv = turn.loop-left.invariant in
-    let small = turn.ranges.part.fits in
-    ⊎_elim
-    (λ w. rw w.1 (best-next _ small inv turn.loop-left-test.true next.lowest-k.ensures c.excluding-left-in-loop-left.ensures w.0.taken))
-    (λ w. rw w.1 (best-still _ small inv turn.loop-left-test.true next.lowest-k.ensures c.excluding-left-in-loop-left.ensures w.0.left))
-    c.if-degrees-r.branch
+    let inv = c.loop-left.invariant in
+    let small = c.ranges.part.fits in
+    let low = c.lowest-k.ensures in
+    let out = c.excluding-left-in-loop-left.ensures in
+    elim c.if-degrees-r.branch [
+      | then-degrees-r w ↦ rw w.r-is (best-next _ small inv c.loop-left-test.true low out w.if-degrees-r.true)
+      | else-degrees-r w ↦ rw w.r-is (best-still _ small inv c.loop-left-test.true low out w.if-degrees-r.false)
+    ]
 
 pub returns : goal.returns
 returns c = best-end _ c.ranges.part.fits c.loop-left.invariant c.loop-left-test.false

@@ -1,9 +1,6 @@
-use borrow.Author.Rules.{rules}
-use mathlib.Core.Logic.{⊎_elim}
 use Rattle.sets.specs.Sets.{size}
-use Rattle.sets.proofs.Members.{next-member, left_less}
 use Rattle.layout.specs.Layout.{degree_in}
-use Rattle.layout.proofs.Roots.{Best, best-first, best-next, best-still, best-end}
+use Rattle.layout.proofs.Roots.{Best}
 use Rattle.layout.proofs.root.Given as goal
 
 abbrev pub invariant-loop-left : goal.invariant-loop-left

@@ -1,13 +1,12 @@
-use borrow.Author.Rules.{rules}
 use mathlib.Core.Path.{◌≡◌, refl, sym, ap, ◌∙◌}
 use Prim.Native.Nat.{ℕ, ◌<◌}
 use native.Mathlib.Omega.{arith}
 use lib.Dec.{lit≤}
 use lib.ListN.{get_or}
 use mathlib.Core.Bool.{true}
-use Rattle.sets.specs.Sets.{intersection, below, size, lowest}
+use Rattle.sets.specs.Sets.{intersection, below}
 use Rattle.sets.proofs.Laws.{intersection-below, below-below}
-use Rattle.sets.proofs.Members.{Left, left-all, next-member, left-turn, left_less, visits_start, visits_turn, visits_end}
+use Rattle.sets.proofs.Members.{left-all, next-member, left-turn, left_less, visits_start, visits_turn, visits_end}
 use Rattle.layout.specs.Build.{absorbed, spread}
 use Rattle.layout.proofs.Parts.{live-place, live_below, spread-still}
 use Rattle.layout.proofs.spread.Goals as goal
@@ -24,17 +23,16 @@ loop-left-init c =
     )
 
 -- the next group stands at one of the 24 places
-place : (c : tie.After-lowest invariant-loop decreases-loop) → c.lowest-k.result < 24
-place c =
-    let turn = c in
-    let next = next-member turn.loop-left.invariant.0 turn.loop-left-test.true c.lowest-k.ensures in
-    (live-place turn.args.groups.now _ c.lowest-k.result next.1).0
-
 pub offset_bounds-groups-k : goal.offset_bounds-groups-k
-offset_bounds-groups-k c = record { fits = omega (arith, place c) }
+offset_bounds-groups-k c =
+    let next = next-member c.loop-left.invariant.0 c.loop-left-test.true c.lowest-k.ensures in
+    let place : c.lowest-k.result < 24 = (live-place c.args.groups.now _ c.lowest-k.result next.1).0 in
+    record { fits = omega arith }
 
 pub bounds-groups-k : goal.bounds-groups-k
-bounds-groups-k c = place c
+bounds-groups-k c =
+    let next = next-member c.loop-left.invariant.0 c.loop-left-test.true c.lowest-k.ensures in
+    (live-place c.args.groups.now _ c.lowest-k.result next.1).0
 
 pub loop-left-smaller : goal.loop-left-smaller
 loop-left-smaller c =

@@ -1,12 +1,8 @@
 -- The key, the number and the LF are written one after the other.
-use borrow.Author.Rules.{rules}
 use Rattle.text.proofs.Written.{written_append}
 use Rattle.lines.specs.Lines.{count_line}
 use Rattle.line_writer.proofs.put_count.Goals as goal
 
 pub returns : goal.returns
 unfolding count_line
-returns c =
-    let value = c in
-    let key = value in
-    written_append (written_append key.put_text-value.ensures value.put_number-end.ensures) c.put.ensures
+returns c = written_append (written_append c.put_text-value.ensures c.put_number-end.ensures) c.put.ensures

@@ -1,19 +1,16 @@
 -- The loop's invariant: with the parents from `u` on written from `next` on, all are written from `at` on.
-use borrow.Author.Rules.{rules}
-use mathlib.Core.Path.{◌≡◌}
 use mathlib.Core.Bool.{true}
-use Prim.Native.Nat.{◌-◌, ◌≤◌, ◌<◌}
-use native.Mathlib.Omega.{arith}
+use Prim.Native.Nat.{◌-◌}
 use lib.Dec.{eqb}
-use lib.ListN.{length, take, drop, length-take}
-use Rattle.text.proofs.Written.{written_append, written-length}
+use lib.ListN.{take, drop}
 use Rattle.line_writer.specs.Texts.{parent_texts}
-use Rattle.line_writer.proofs.Texts.{Remains, remains_next, remains_none, parents-next, parents-end}
+use Rattle.line_writer.proofs.Texts.{Remains}
 use Rattle.line_writer.proofs.put_entries.Given as goal
 
 abbrev pub invariant-loop-u : goal.invariant-loop-u
 invariant-loop-u l =
-    Remains (parent_texts (eqb l.u 0) (drop l.u (take l.units l.parents))) (parent_texts true (take l.units l.parents)) l.at l.initial.out l.next l.out
+    Remains (parent_texts (eqb l.u 0) (drop l.u (take l.units l.parents))) (parent_texts true (take l.units l.parents))
+    l.at l.initial.out l.next l.out
 
 abbrev pub decreases-loop-u : goal.decreases-loop-u
 decreases-loop-u l = l.units - l.u

@@ -1,5 +1,4 @@
 -- An arrive is a key and a number; of a send the key, its numbers and the LF are written one after the other.
-use borrow.Author.Rules.{rules}
 use Rattle.text.proofs.Written.{written_append}
 use Rattle.lines.specs.Lines.{arrive_key, send_key, count_line}
 use Rattle.line_writer.proofs.Texts.{arrive-line, send-line}
@@ -12,7 +11,5 @@ returns-then-first-eq0 c = rw (arrive-line _ _ _ c.if-first-eq0.true) c.put_coun
 pub returns : goal.returns
 unfolding send_key
 returns c =
-    let send = c in
-    let key = send in
-    rw (send-line _ _ _ key.if-first-eq0.false)
-    (written_append (written_append key.put_text-value.ensures send.put_send-end.ensures) c.put.ensures)
+    rw (send-line _ _ _ c.if-first-eq0.false)
+    (written_append (written_append c.put_text-value.ensures c.put_send-end.ensures) c.put.ensures)

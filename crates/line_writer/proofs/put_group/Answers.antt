@@ -1,5 +1,4 @@
 -- The key, the members and the LF are written one after the other.
-use borrow.Author.Rules.{rules}
 use Rattle.text.proofs.Written.{written_append}
 use Rattle.lines.specs.Lines.{group_line, group_key}
 use Rattle.line_writer.proofs.Texts.{members-commas}
@@ -8,7 +7,5 @@ use Rattle.line_writer.proofs.put_group.Goals as goal
 pub returns : goal.returns
 unfolding group_line group_key
 returns c =
-    let members = c in
-    let key = members in
-    let written = rw members-commas at members.put_members-end.ensures in
-    written_append (written_append key.put_text-value.ensures written) c.put.ensures
+    let written = rw members-commas at c.put_members-end.ensures in
+    written_append (written_append c.put_text-value.ensures written) c.put.ensures

@@ -1,12 +1,8 @@
 -- The loop's invariant: with the members from `u` on written from `next` on, all are written from `at` on.
-use borrow.Author.Rules.{rules}
-use mathlib.Core.Path.{sym, ◌∙◌}
-use mathlib.Core.Logic.{⊎_elim}
 use mathlib.Core.Bool.{true}
 use Prim.Native.Nat.{◌-◌}
-use Rattle.text.proofs.Written.{written_append, written-length}
 use Rattle.line_writer.specs.Texts.{member_texts}
-use Rattle.line_writer.proofs.Texts.{Remains, remains_next, remains_none, members-here, members-not, members-end}
+use Rattle.line_writer.proofs.Texts.{Remains}
 use Rattle.line_writer.proofs.put_members.Given as goal
 
 abbrev pub invariant-loop-u : goal.invariant-loop-u

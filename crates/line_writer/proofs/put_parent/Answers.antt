@@ -1,5 +1,4 @@
 -- A root is one byte, another parent its number.
-use borrow.Author.Rules.{rules}
 use Rattle.lines.specs.Lines.{root_word}
 use Rattle.lines.proofs.ParentTexts.{text-root, text-unit}
 use Rattle.line_writer.proofs.put_parent.Goals as goal

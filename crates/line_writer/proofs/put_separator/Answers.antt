@@ -1,5 +1,4 @@
 -- Nothing is written before the first, a comma before another.
-use borrow.Author.Rules.{rules}
 use Rattle.text.proofs.Written.{written_none}
 use Rattle.line_writer.specs.Texts.{separator}
 use Rattle.line_writer.proofs.put_separator.Goals as goal

@@ -1,5 +1,4 @@
 -- One more below the limit, no more at it.
-use borrow.Author.Rules.{rules}
 use Rattle.lines.proofs.Folds.{up_more, up-full}
 use Rattle.lines.proofs.counted.Goals as goal
 

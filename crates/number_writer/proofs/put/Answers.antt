@@ -1,6 +1,5 @@
 -- One number is written where there is room, and none at the end.
 use Rattle.text.proofs.Written.{written_byte, written_past}
-use borrow.Author.Rules.{rules}
 use Rattle.number_writer.proofs.put.Goals as goal
 
 pub returns-then-at-out : goal.returns-then-at-out

@@ -1,9 +1,7 @@
 -- The loop's invariant: the first `i` are written.
 use Prim.Native.Nat.{◌-◌, ◌≤◌}
 use lib.ListN.{length, take}
-use borrow.Author.Rules.{rules}
 use Rattle.text.specs.Writing.{Written}
-use Rattle.text.proofs.Written.{written_none, written-more, written-length, written_all}
 use Rattle.number_writer.proofs.put_all.Given as goal
 
 abbrev pub invariant-loop-i : goal.invariant-loop-i

@@ -1,5 +1,4 @@
 -- The line is a key and a number.
-use borrow.Author.Rules.{rules}
 use Rattle.output_lines.specs.Output.{hops_line, hops_key}
 use Rattle.output_lines.proofs.put_hops.Goals as goal
 

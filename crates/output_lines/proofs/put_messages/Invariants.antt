@@ -1,12 +1,8 @@
 -- The loop's invariant: with the messages from `i` on written from `next` on, all are written from `at` on.
-use borrow.Author.Rules.{rules}
-use native.Mathlib.Omega.{arith}
 use Prim.Native.Nat.{◌-◌}
 use lib.ListN.{length, drop}
-use Rattle.text.proofs.Written.{written_append, written-length}
-use Rattle.line_writer.proofs.Texts.{Remains, remains_next, remains_none}
+use Rattle.line_writer.proofs.Texts.{Remains}
 use Rattle.output_lines.specs.Output.{message_texts}
-use Rattle.output_lines.proofs.Texts.{messages-next, messages-end}
 use Rattle.output_lines.proofs.put_messages.Given as goal
 
 abbrev pub invariant-loop-i : goal.invariant-loop-i

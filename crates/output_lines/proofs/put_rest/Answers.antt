@@ -1,5 +1,4 @@
 -- Each answer is one text with its LF.
-use borrow.Author.Rules.{rules}
 use Rattle.output_lines.specs.Output.{rest_line, rest_key, answer_word}
 use Rattle.output_lines.proofs.put_rest.Goals as goal
 

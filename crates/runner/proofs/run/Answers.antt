@@ -28,6 +28,7 @@ pub returns : goal.returns
 returns c =
     let count = c in let line = count in let number = line in
     let read = number in
-    run-read _ _ _ read.read-answer.result refl read.read-answer.ensures _ _ _ read.if-out-lt-OUTPUT.false number.reply_number-number.ensures
+    run-read _ _ _ read.read-answer.result refl read.read-answer.ensures _ _ _ read.if-out-lt-OUTPUT.false
+    number.reply_number-number.ensures
     line.reply_line-line.ensures
     count.if-number-ne0.false (rw count.reply_count-count.ensures at c.run_content.ensures)

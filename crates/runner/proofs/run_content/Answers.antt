@@ -18,5 +18,6 @@ returns c =
     let run = c in let test = run in
     let number = test in let forest = number in
     content-ran forest.forest_of-forest.result.verdict forest.forest_of-forest.ensures.0 number.verdict_number-number.ensures
-    forest.forest_of-forest.result.parents test.if-number-ne0.false forest.forest_of-forest.ensures.1 places refl run.run_bench-totals.ensures.1
+    forest.forest_of-forest.result.parents test.if-number-ne0.false forest.forest_of-forest.ensures.1 places refl
+    run.run_bench-totals.ensures.1
     c.printed.ensures

@@ -1,5 +1,4 @@
 -- What `bench_engine::log_length` promises of the two lists, it promises of the bench.
-use borrow.Author.Rules.{rules}
 use mathlib.Core.Path.{subst}
 use mathlib.Core.List.{List}
 use Prim.Native.Nat.{ℕ}

@@ -62,7 +62,8 @@ module _ (t : Totals) (ts ms : List ℕ) (ps : List (List (List ℕ))) (gs : Lis
 pub returns-then-is_closed : goal.returns-then-is_closed
 returns-then-is_closed c =
     let a = c.args in
-    let closed : is_closed (arrive_refusal a.t.made a.hop (length a.hops.now) (length a.book.now)) (hop_at a.hops.now a.hop) ≡ true = cc in
+    let closed : is_closed (arrive_refusal a.t.made a.hop (length a.hops.now) (length a.book.now)) (hop_at a.hops.now a.hop)
+    ≡ true = cc in
     let is : c.closed.result ≡ closed_as a.t (arrive_refusal a.t.made a.hop (length a.hops.now) (length a.book.now)) = cc in
     shut a.t a.tables.now a.messages.now a.pairs.now a.gauges.now a.hop a.hops.now a.book.now c.closed.result closed is
 

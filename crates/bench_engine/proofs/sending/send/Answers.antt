@@ -22,7 +22,8 @@ true_of_not true h = refl
 true_of_not false h = sym h
 
 -- turned away
-away : (t : Totals) (ts ms : List ℕ) (ps : List (List (List ℕ))) (gs : List ℕ) (s g w : ℕ) (hops : List Hop) (number : ℕ) (r : Sent)
+away : (t : Totals) (ts ms : List ℕ) (ps : List (List (List ℕ))) (gs : List ℕ) (s g w : ℕ) (hops : List Hop) (number : ℕ)
+    (r : Sent)
     → number ≡ send_refusal t ts s g (length hops) → is_refused number ≡ true → r ≡ turned_away t number
     → SendPromise (bench t ts ms ps gs) s g w hops r.reply (bench r.totals ts ms ps gs) hops
 unfolding is_refused turned_away
@@ -34,7 +35,8 @@ away t ts ms ps gs s g w hops number r e refuses is =
     (subst (λ (k : ℕ). SendPromise b s g w hops (sent_reply t k) b hops) (sym e) (send-refused b s g w hops none))
 
 -- not turned away
-sent : (t : Totals) (ts ms : List ℕ) (ps : List (List (List ℕ))) (gs : List ℕ) (s g w : ℕ) (hops : List Hop) (number : ℕ) (r : Sent)
+sent : (t : Totals) (ts ms : List ℕ) (ps : List (List (List ℕ))) (gs : List ℕ) (s g w : ℕ) (hops : List Hop) (number : ℕ)
+    (r : Sent)
     → number ≡ send_refusal t ts s g (length hops) → is_refused number ≡ false → r ≡ sent_as t ts g
     → SendPromise (bench t ts ms ps gs) s g w hops r.reply
     (bench r.totals ts (recorded_messages t s g w ms) (recorded_pairs ts s g ps) gs)

@@ -1,24 +1,16 @@
 use borrow.Author.Rules.{rules}
-use mathlib.Core.Path.{◌≡◌, refl, ◌∙◌}
+use mathlib.Core.Path.{refl, ◌∙◌}
 use mathlib.Core.Logic.{by_cases}
-use mathlib.Core.List.{List}
-use Prim.Native.Nat.{ℕ, ◌-◌, ◌≤◌, ◌<◌}
+use Prim.Native.Nat.{ℕ, ◌≤◌, ◌<◌}
 use native.Mathlib.Nat.{lt_irrefl}
 use native.Mathlib.Decide.{ℕ_discrete, dec_lt}
 use native.Mathlib.Omega.{arith}
 use borrow.Author.Tests.{lt-ltb, le-ltb}
-use lib.ListN.{length, get_or, length-set}
+use lib.ListN.{length-set}
 use lib.Seq.{get_or-set_same, get_or-set_other}
 use Rattle.layout.proofs.Tables.{tabulated}
 use Rattle.forest.specs.Calls.{counted_at, counted}
 use Rattle.forest.proofs.counting.counted.Goals as goal
-
--- the places below the count are as they were, and those from there to i are empty
-record Emptied (count : ℕ) (before groups : List ℕ) (i : ℕ) : Type 0 where
-  from : count ≤ i
-  long : length groups ≡ 24
-  kept : (j : ℕ) → j < count → get_or groups j 0 ≡ get_or before j 0
-  empty : (j : ℕ) → count ≤ j → j < i → get_or groups j 0 ≡ 0
 
 pub loop-i-init : goal.loop-i-init
 loop-i-init c = record {

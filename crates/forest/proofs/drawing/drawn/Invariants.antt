@@ -1,10 +1,6 @@
-use borrow.Author.Rules.{rules}
-use mathlib.Core.Path.{refl, ap, ◌∙◌}
-use mathlib.Core.Bool.{cond}
-use Prim.Native.Nat.{ℕ, ◌-◌}
-use lib.Dec.{ltb}
-use Rattle.forest.specs.Calls.{drawn_at, drawn}
-use Rattle.layout.proofs.Loops.{get_d_any, Filled, filled_none, filled-turn, filled-all}
+use Prim.Native.Nat.{◌-◌}
+use Rattle.forest.specs.Calls.{drawn_at}
+use Rattle.layout.proofs.Loops.{Filled}
 use Rattle.forest.proofs.drawing.drawn.Given as goal
 
 abbrev pub invariant-loop-u : goal.invariant-loop-u

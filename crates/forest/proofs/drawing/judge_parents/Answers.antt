@@ -1,4 +1,3 @@
-use borrow.Author.Rules.{rules}
 use Rattle.forest.specs.Calls.{outside_parents, refusal, refuse, drawing_refusal}
 use Rattle.forest.specs.Forest.{cyclic_units, without_primary}
 use Rattle.forest.specs.Faults.{faulty}

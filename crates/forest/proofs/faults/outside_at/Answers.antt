@@ -1,4 +1,3 @@
-use borrow.Author.Rules.{rules}
 use native.Mathlib.Omega.{arith}
 use Rattle.forest.specs.Calls.{outside_at}
 use lib.ListN.{get_or-eq_default}

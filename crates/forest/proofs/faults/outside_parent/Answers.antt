@@ -9,14 +9,14 @@ use Rattle.forest.proofs.faults.outside_parent.Goals as goal
 
 pub returns-then-u-ge32 : goal.returns-then-u-ge32
 unfolding outside_parent parent
-returns-then-u-ge32 c = simp (get_or-eq_default c.args.t2 255 {n = c.args.u} (search rules), and-false)
+returns-then-u-ge32 c = simp (get_or-eq_default c.args.parents 255 {n = c.args.u} (search rules), and-false)
 
 pub returns-then-p-units : goal.returns-then-p-units
 unfolding outside_parent parent
 returns-then-p-units c =
-    simp (get_d_any c.args.t2 c.args.u 255 0 (search rules), lt-leb _ _ c.if-p-units.true)
+    simp (get_d_any c.args.parents c.args.u 255 0 (search rules), lt-leb _ _ c.if-p-units.true)
 
 pub returns : goal.returns
 unfolding outside_parent parent
 returns c =
-    simp (get_d_any c.args.t2 c.args.u 255 0 (search rules), le-leb _ _ c.if-p-units.false)
+    simp (get_d_any c.args.parents c.args.u 255 0 (search rules), le-leb _ _ c.if-p-units.false)

@@ -14,4 +14,4 @@ pub returns : goal.returns
 unfolding own_ancestor above parent
 returns c =
     let args = c.args in
-    rw (get_d_any args.t1 args.u 255 0 (search rules), ← c.ancestors.ensures) c.member.ensures
+    rw (get_d_any args.parents args.u 255 0 (search rules), ← c.ancestors.ensures) c.member.ensures

@@ -1,7 +1,4 @@
-use borrow.Author.Rules.{rules}
-use Prim.Native.Nat.{◌-◌}
-use Rattle.forest.specs.Faults.{faulty}
-use Rattle.layout.proofs.Loops.{Collected, collected_none, collected_turn, reached-all}
+use Rattle.layout.proofs.Loops.{collected_none, collected_turn, reached-all}
 use Rattle.forest.proofs.faults.places.Goals as goal
 
 pub loop-i-init : goal.loop-i-init

@@ -1,7 +1,6 @@
-use borrow.Author.Rules.{rules}
 use Prim.Native.Nat.{◌-◌}
 use Rattle.forest.specs.Faults.{faulty}
-use Rattle.layout.proofs.Loops.{Collected, collected_none, collected_turn, reached-all}
+use Rattle.layout.proofs.Loops.{Collected}
 use Rattle.forest.proofs.faults.places.Given as goal
 
 abbrev pub invariant-loop-i : goal.invariant-loop-i

@@ -1,4 +1,3 @@
-use borrow.Author.Rules.{rules}
 use mathlib.Core.Path.{sym, ◌∙◌}
 use Rattle.forest.specs.Calls.{empty_groups, outside_groups, refusal, refuse, groups_refusal}
 use Rattle.forest.specs.Faults.{faulty}

@@ -1,11 +1,6 @@
-use borrow.Author.Rules.{rules}
-use mathlib.Core.Path.{refl}
-use Prim.Native.Nat.{◌<◌}
-use native.Mathlib.Omega.{arith}
-use Rattle.sets.specs.Sets.{intersection, size}
-use Rattle.sets.proofs.Members.{next-member, left_less}
+use Rattle.sets.specs.Sets.{size}
 use Rattle.forest.specs.Forest.{above_every}
-use Rattle.forest.proofs.AncestorTables.{Followed, followed-none, followed-turn, followed-all}
+use Rattle.forest.proofs.AncestorTables.{Followed}
 use Rattle.forest.proofs.routes.above_every.Given as goal
 
 abbrev pub invariant-loop-left : goal.invariant-loop-left

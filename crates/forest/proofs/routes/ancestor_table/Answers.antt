@@ -1,15 +1,13 @@
-use borrow.Author.Rules.{rules}
-use mathlib.Core.Path.{◌≡◌, refl, ap, ◌∙◌}
+use mathlib.Core.Path.{refl, ap, ◌∙◌}
 use mathlib.Core.List.{List}
 use Prim.Native.Nat.{ℕ, ◌<◌}
 use native.Mathlib.Omega.{arith}
 use lib.Dec.{lit≤}
 use lib.ListN.{set}
-use Rattle.sets.specs.Sets.{size, lowest}
-use Rattle.sets.proofs.Members.{Left, left-all, next-member, left-turn, left_less, visits_start, visits_turn, visits_end}
+use Rattle.sets.proofs.Members.{left-all, next-member, left-turn, left_less, visits_start, visits_turn, visits_end}
 use Rattle.layout.specs.Tables.{tabulate}
 use Rattle.layout.proofs.Tables.{get_d_tabulate}
-use Rattle.layout.proofs.Loops.{updated, updated_none, updated-still, updated-turn, updated-all}
+use Rattle.layout.proofs.Loops.{updated_none, updated-still, updated-turn, updated-all}
 use Rattle.forest.specs.Forest.{ancestors}
 use Rattle.forest.specs.Routes.{ancestor_table}
 use Rattle.forest.proofs.routes.ancestor_table.Goals as goal
@@ -25,31 +23,29 @@ pub climbed-requires : goal.climbed-requires
 climbed-requires c = c.requires
 
 -- the next member is a unit
-unit : (c : tie.After-lowest invariant-loop decreases-loop) → c.lowest-u.result < 32
-unit c = (next-member c.loop-left.invariant.0 c.loop-left-test.true c.lowest-u.ensures).0
-
 pub offset_bounds-table-u : goal.offset_bounds-table-u
-offset_bounds-table-u c = record { fits = omega (arith, unit c) }
+offset_bounds-table-u c =
+    let next = next-member c.loop-left.invariant.0 c.loop-left-test.true c.lowest-u.ensures in
+    let unit : c.lowest-u.result < 32 = next.0 in
+    record { fits = omega arith }
 
 pub bounds-table-u : goal.bounds-table-u
-bounds-table-u c = unit c
+bounds-table-u c = (next-member c.loop-left.invariant.0 c.loop-left-test.true c.lowest-u.ensures).0
 
 pub loop-left-smaller : goal.loop-left-smaller
 loop-left-smaller c =
-    let low = c in
-    left_less low.loop-left.invariant.0 low.loop-left-test.true low.lowest-u.ensures c.excluding-left.ensures
+    left_less c.loop-left.invariant.0 c.loop-left-test.true c.lowest-u.ensures c.excluding-left.ensures
 
 pub loop-left-preserved : goal.loop-left-preserved
 loop-left-preserved c =
-    let low = c in
-    let inv = low.loop-left.invariant in
-    let a = low.args in
+    let inv = c.loop-left.invariant in
+    let a = c.args in
     let new = ancestors a.parents.now in
-    let k = low.lowest-u.result in (
-      left-turn inv.0 low.loop-left-test.true low.lowest-u.ensures c.excluding-left.ensures,
-      visits_turn _ _ (updated-still a.units new _) inv.0 low.loop-left-test.true low.lowest-u.ensures
+    let k = c.lowest-u.result in (
+      left-turn inv.0 c.loop-left-test.true c.lowest-u.ensures c.excluding-left.ensures,
+      visits_turn _ _ (updated-still a.units new _) inv.0 c.loop-left-test.true c.lowest-u.ensures
           c.excluding-left.ensures inv.1
-          (λ b m e. ap (set low.loop-left.table k) c.climbed.ensures
+          (λ b m e. ap (set c.loop-left.table k) c.climbed.ensures
           ∙ ap (λ (l : List ℕ). set l k (new k)) e
           ∙ updated-turn a.units new _ k b m),
     )
@@ -57,6 +53,5 @@ loop-left-preserved c =
 pub returns : goal.returns
 unfolding ancestor_table
 returns c =
-    let start = c in
-    visits_end _ _ (updated-still _ _ _) 32 start.ranges.units.fits (lit≤ tt) c.loop-left.invariant.1 c.loop-left-test.false
+    visits_end _ _ (updated-still _ _ _) 32 c.ranges.units.fits (lit≤ tt) c.loop-left.invariant.1 c.loop-left-test.false
     ∙ updated-all _ _ _

@@ -1,11 +1,6 @@
-use borrow.Author.Rules.{rules}
-use mathlib.Core.Path.{refl, ap, ◌∙◌}
-use Prim.Native.Nat.{ℕ, ◌<◌}
-use native.Mathlib.Omega.{arith}
-use Rattle.sets.specs.Sets.{member, size, including_if, collect}
-use Rattle.sets.proofs.Members.{next-member, left_less}
+use Rattle.sets.specs.Sets.{size, collect}
 use Rattle.forest.specs.Forest.{on_route}
-use Rattle.forest.proofs.AncestorTables.{Followed, followed-none, followed-turn, followed-all, route-steps}
+use Rattle.forest.proofs.AncestorTables.{Followed}
 use Rattle.forest.proofs.routes.below_primary.Given as goal
 
 abbrev pub invariant-loop-left : goal.invariant-loop-left

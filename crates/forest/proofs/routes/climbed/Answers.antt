@@ -1,9 +1,8 @@
-use borrow.Author.Rules.{rules}
 use native.Mathlib.Omega.{arith}
 use mathlib.Core.Path.{◌≡◌, ap}
 use Prim.Native.Nat.{ℕ}
 use Rattle.forest.specs.Forest.{ancestors_within}
-use Rattle.forest.proofs.Shared.{Climbed, climbed_none, climbed_turn, climbed_all, no_ancestors}
+use Rattle.forest.proofs.Shared.{climbed_none, climbed_turn, climbed_all, no_ancestors}
 use Rattle.forest.proofs.routes.climbed.Goals as goal
 
 pub loop-left-init : goal.loop-left-init

@@ -1,9 +1,4 @@
-use borrow.Author.Rules.{rules}
-use native.Mathlib.Omega.{arith}
-use mathlib.Core.Path.{◌≡◌, ap}
-use Prim.Native.Nat.{ℕ}
-use Rattle.forest.specs.Forest.{ancestors_within}
-use Rattle.forest.proofs.Shared.{Climbed, climbed_none, climbed_turn, climbed_all, no_ancestors}
+use Rattle.forest.proofs.Shared.{Climbed}
 use Rattle.forest.proofs.routes.climbed.Given as goal
 
 abbrev pub invariant-loop-left : goal.invariant-loop-left

@@ -1,4 +1,3 @@
-use borrow.Author.Rules.{rules}
 use mathlib.Core.Path.{ap, ◌∙◌}
 use Rattle.sets.specs.Sets.{intersection, lowest}
 use Rattle.forest.specs.Forest.{primary}
@@ -7,6 +6,5 @@ use Rattle.forest.proofs.routes.primary_by.Goals as goal
 pub returns : goal.returns
 unfolding primary
 returns c ps h =
-    let every = c in
     c.lowest.ensures ∙ ap lowest (c.intersection.ensures
-    ∙ ap (intersection every.args.group) (every.above_every-every.ensures ps h))
+    ∙ ap (intersection c.args.group) (c.above_every-every.ensures ps h))

@@ -1,4 +1,3 @@
-use borrow.Author.Rules.{rules}
 use mathlib.Core.Path.{ap₂, ◌∙◌}
 use Prim.Native.Nat.{ℕ}
 use Rattle.sets.specs.Sets.{collect}
@@ -9,8 +8,6 @@ use Rattle.forest.proofs.routes.route_by.Goals as goal
 pub returns : goal.returns
 unfolding route
 returns c ps h e =
-    let some = c in
-    let start = some in
-    c.below_primary.ensures ps (any_known h some.above_some-some.type-inv)
+    c.below_primary.ensures ps (any_known h c.above_some-some.type_inv)
     ∙ ap₂ (λ (top some : ℕ). collect 32 (on_route ps top some)) e
-    (some.above_some-some.ensures ps (any_known h start.ranges.group.fits))
+    (c.above_some-some.ensures ps (any_known h c.ranges.group.fits))

@@ -1,16 +1,10 @@
-use borrow.Author.Rules.{rules}
-use mathlib.Core.Path.{refl}
 use mathlib.Core.List.{List}
-use Prim.Native.Nat.{ℕ, ◌-◌, ◌<◌, ◌^◌}
-use native.Mathlib.Omega.{arith}
+use Prim.Native.Nat.{ℕ, ◌-◌}
 use lib.ListN.{get_or}
-use mir.Syntax.{w32}
-use mir.Val.{Fits}
 use Rattle.sets.specs.Sets.{below}
-use Rattle.layout.proofs.Loops.{Filled, filled_none, filled-turn, filled-all}
+use Rattle.layout.proofs.Loops.{Filled}
 use Rattle.forest.specs.Forest.{primary, route}
 use Rattle.forest.specs.Routes.{Ancestors}
-use Rattle.forest.proofs.AncestorTables.{all_known, any_known, primary-small}
 use Rattle.forest.proofs.routes.route_table.Given as goal
 
 abbrev pub invariant-loop-g : goal.invariant-loop-g

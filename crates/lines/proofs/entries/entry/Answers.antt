@@ -1,5 +1,4 @@
 -- A root's word is 0, every other text one more than its number.
-use borrow.Author.Rules.{rules}
 use native.Mathlib.Omega.{arith}
 use native.Mathlib.Numerals.{add-one}
 use mathlib.Core.Path.{sym, ◌∙◌}
@@ -9,11 +8,11 @@ use Rattle.lines.proofs.entries.entry.Goals as goal
 
 pub returns-then-is_word : goal.returns-then-is_word
 unfolding entry root_word
-returns-then-is_word c = simp (sym c.is_IsWord.ensures ∙ c.if-is_word.true)
+returns-then-is_word c = simp (sym c.is_word.ensures ∙ c.if-is_word.true)
 
 pub overflow_add-result : goal.overflow_add-result
 overflow_add-result c = omega (arith, c.number.ensures, number-most c.args.text.now)
 
 pub returns : goal.returns
 unfolding entry root_word
-returns c = simp (add-one, c.number.ensures, sym c.is_IsWord.ensures ∙ c.if-is_word.false)
+returns c = simp (add-one, c.number.ensures, sym c.is_word.ensures ∙ c.if-is_word.false)

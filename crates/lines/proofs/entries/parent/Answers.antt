@@ -1,5 +1,4 @@
 -- Each test of the function is one of the rule's.
-use borrow.Author.Rules.{rules}
 use borrow.Author.Tests.{lt-ltb, le-ltb, eq-eqb, ne_eqb}
 use Rattle.lines.specs.Fields.{parent_byte}
 use Rattle.lines.proofs.entries.parent.Goals as goal

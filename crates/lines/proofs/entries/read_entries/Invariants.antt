@@ -1,12 +1,9 @@
 -- The loop's invariant: the entries from `at` on, behind those read so far, say what all entries say.
-use borrow.Author.Rules.{rules}
-use native.Mathlib.Omega.{arith}
-use mathlib.Core.Path.{ap, ◌∙◌}
-use Prim.Native.Nat.{◌+◌, ◌-◌, ◌≤◌}
+use Prim.Native.Nat.{◌+◌, ◌-◌}
 use lib.ListN.{length}
-use Rattle.lines.specs.Lines.{entry, entries_in}
+use Rattle.lines.specs.Lines.{entry}
 use Rattle.lines.specs.Fields.{no_entries, with_entry}
-use Rattle.lines.proofs.Ends.{Reading, reading-start, reading-within, reading-turn, reading-end}
+use Rattle.lines.proofs.Ends.{Reading}
 use Rattle.lines.proofs.entries.read_entries.Given as goal
 
 abbrev pub invariant-loop-at : goal.invariant-loop-at

@@ -1,5 +1,4 @@
 -- Each field is the rule's, by what the callees ensure.
-use borrow.Author.Rules.{rules}
 use Rattle.lines.specs.Fields.{with_number}
 use Rattle.lines.proofs.events.with_number.Goals as goal
 

@@ -1,5 +1,4 @@
 -- The rule's key and limits.
-use borrow.Author.Rules.{rules}
 use Rattle.lines.specs.Lines.{groups_fault, groups_key}
 use Rattle.lines.proofs.fields.groups.Goals as goal
 

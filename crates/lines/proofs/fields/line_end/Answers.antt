@@ -1,5 +1,4 @@
 -- The part that is lent is the line without its LF.
-use borrow.Author.Rules.{rules}
 use mathlib.Core.Path.{sym, ◌∙◌}
 use Rattle.lines.proofs.Ends.{lent_length, end_keyed, end_keyless}
 use Rattle.lines.proofs.fields.line_end.Goals as goal

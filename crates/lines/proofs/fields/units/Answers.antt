@@ -1,5 +1,4 @@
 -- The rule's key and limits.
-use borrow.Author.Rules.{rules}
 use Rattle.lines.specs.Lines.{units_fault, units_key}
 use Rattle.lines.proofs.fields.units.Goals as goal
 

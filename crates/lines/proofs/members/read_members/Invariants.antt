@@ -1,14 +1,9 @@
 -- The loop's invariant: the members from `at` on, behind those read so far, say what all members say.
-use borrow.Author.Rules.{rules}
-use native.Mathlib.Omega.{arith}
-use mathlib.Core.Path.{ap, ◌∙◌}
-use Prim.Native.Nat.{◌+◌, ◌-◌, ◌≤◌}
+use Prim.Native.Nat.{◌+◌, ◌-◌}
 use lib.ListN.{length}
 use Rattle.text.specs.Text.{number}
-use Rattle.text.proofs.Numbers.{number-most}
-use Rattle.lines.specs.Lines.{numbers_in}
 use Rattle.lines.specs.Fields.{no_members, with_member}
-use Rattle.lines.proofs.Ends.{Reading, reading-start, reading-within, reading-turn, reading-end}
+use Rattle.lines.proofs.Ends.{Reading}
 use Rattle.lines.proofs.members.read_members.Given as goal
 
 abbrev pub invariant-loop-at : goal.invariant-loop-at

@@ -13,7 +13,8 @@ use Rattle.runner.proofs.benches.run_hops.Goals as goal
 
 taken-apart : (fresh : Bench) (count : ℕ) {first : Bench} {t : Totals} {list ts ms gs : List ℕ} {ps : List (List (List ℕ))}
     {start end : Progress} {last : BenchLists} {hops hops' : List Hop} {book book' out out' : List ℕ}
-    → first ≡ fresh → ts ≡ first.tables → ms ≡ first.messages → ps ≡ first.pairs.grids → gs ≡ first.gauges → t ≡ first.totals
+    → first ≡ fresh → ts ≡ first.tables → ms ≡ first.messages → ps ≡ first.pairs.grids → gs ≡ first.gauges → t
+    ≡ first.totals
     → start ≡ begun_with count t
     → EventsRun list start (bench start.totals ts ms ps gs) hops book out end last hops' book' out'
     → EventsRun list (begun_with count (lists_of fresh).totals) (lists_of fresh) hops book out end last hops' book' out'

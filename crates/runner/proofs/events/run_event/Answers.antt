@@ -7,7 +7,8 @@ pub returns-then-is_send : goal.returns-then-is_send
 unfolding after_send
 returns-then-is_send c =
     let promise =
-    rw (c.totals_of-totals.ensures, c.source.ensures, c.second-second.ensures, c.third.ensures) at (c.send-sent.ensures c.args.gauges.now) in
+    rw (c.totals_of-totals.ensures, c.source.ensures, c.second-second.ensures, c.third.ensures) at (c.send-sent.ensures c.args.gauges.now)
+    in
     rw c.after_send.ensures (sent c.send-sent.result (sym c.if-is_send.ensures) promise)
 
 pub returns : goal.returns

@@ -11,7 +11,8 @@ use Rattle.bench_promises.specs.State.{Bench, bench}
 use Rattle.bench_promises.proofs.Padding.{plus-small}
 use Rattle.runner.specs.declared.events.Event.{Event}
 use Rattle.runner.specs.declared.events.Progress.{Progress}
-use Rattle.runner.specs.Steps.{is_going, event_at, after_send, after_arrive, EventRun, sent, arrived, advanced, Noted, EventsRun, over, next}
+use Rattle.runner.specs.Steps.{is_going, event_at, after_send, after_arrive, EventRun, sent, arrived, advanced, Noted, EventsRun, over}
+use Rattle.runner.specs.Steps.{next}
 use Rattle.runner.proofs.events.run_events.Goals as goal
 
 same-count : {p q : Progress} {b b' : Bench} {e : Event} {hops hops' : List Hop} {book book' : List ℕ}
@@ -31,11 +32,13 @@ unfolding is_going advanced
 nearer list {p} {q} {r} goes ran noted =
     let few : p.count < 3000 = ltb-true p.count 3000 (and_left _ _ (sym goes)) in
     let same : q.count ≡ p.count = same-count ran in
-    let more : r.count ≡ q.count + 1 = ap (λ (s : Progress). s.count) noted.goes_on ∙ plus-small q.count 1 (omega (arith, few, same)) in
+    let more : r.count ≡ q.count + 1 = ap (λ (s : Progress). s.count) noted.goes_on ∙ plus-small q.count 1 (omega (arith, few, same))
+    in
     omega (arith, few, same, more)
 
 turn : {list ts ms gs : List ℕ} {ps : List (List (List ℕ))} {p q r end : Progress} {b last : Bench} {e : Event}
-    {hops hops' hops'' : List Hop} {book book' book'' out out' out'' : List ℕ} → true ≡ is_going p.count list → e ≡ event_at p.count list
+    {hops hops' hops'' : List Hop} {book book' book'' out out' out'' : List ℕ} → true ≡ is_going p.count list → e
+    ≡ event_at p.count list
     → EventRun p b e hops book q (bench q.totals ts ms ps gs) hops' book' → Noted q out r out'
     → EventsRun list r (bench r.totals ts ms ps gs) hops' book' out' end last hops'' book'' out''
     → EventsRun list p b hops book out end last hops'' book'' out''

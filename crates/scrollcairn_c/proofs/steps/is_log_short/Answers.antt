@@ -1,4 +1,6 @@
 -- The tests are the rule's.
+use Prim.Native.Nat.{◌≤◌}
+use native.Mathlib.Omega.{arith}
 use borrow.Author.Tests.{lt-ltb, le-ltb}
 use Rattle.scrollcairn_c.specs.Live.{log_short}
 use Rattle.scrollcairn_c.proofs.steps.is_log_short.Goals as goal
@@ -13,4 +15,6 @@ returns-then-lengths-lt-SIZE c = rw (le-ltb _ _ c.if-tables-lt-SIZE.false, lt-lt
 
 pub returns : goal.returns
 unfolding log_short
-returns c = rw (le-ltb _ _ c.if-tables-lt-SIZE.false, le-ltb _ _ c.if-lengths-lt-SIZE.false)
+returns c =
+    let lengths : 32 ≤ c.args.lengths = omega arith in
+    rw (le-ltb _ _ c.if-tables-lt-SIZE.false, le-ltb _ _ lengths)

@@ -1,4 +1,6 @@
 -- The tests are the rule's.
+use Prim.Native.Nat.{◌≤◌}
+use native.Mathlib.Omega.{arith}
 use borrow.Author.Tests.{lt-ltb, le-ltb}
 use Rattle.scrollcairn_c.specs.Live.{send_short}
 use Rattle.scrollcairn_c.proofs.steps.is_send_short.Goals as goal
@@ -18,4 +20,6 @@ returns-then-pairs-lt-SIZE c =
 
 pub returns : goal.returns
 unfolding send_short
-returns c = rw (le-ltb _ _ c.if-tables-lt-SIZE.false, le-ltb _ _ c.if-messages-lt-SIZE.false, le-ltb _ _ c.if-pairs-lt-SIZE.false)
+returns c =
+    let pairs : 2 ≤ c.args.pairs = omega arith in
+    rw (le-ltb _ _ c.if-tables-lt-SIZE.false, le-ltb _ _ c.if-messages-lt-SIZE.false, le-ltb _ _ pairs)

@@ -1,5 +1,4 @@
 -- Each test of the function is one of the rule's.
-use borrow.Author.Rules.{rules}
 use native.Mathlib.Omega.{arith}
 use mathlib.Core.Path.{sym}
 use Rattle.text.proofs.Places.{digit-high, digit_low, digit_past, digit-more}

@@ -1,11 +1,8 @@
 -- The loop's invariant: the byte's place is `at` places after its place in the text from `at` on.
-use borrow.Author.Rules.{rules}
-use native.Mathlib.Omega.{arith}
 use mathlib.Core.Path.{◌≡◌}
 use Prim.Native.Nat.{◌+◌, ◌-◌, ◌≤◌}
 use lib.ListN.{length, drop}
 use Rattle.text.specs.Writing.{place_of}
-use Rattle.text.proofs.Places.{place_here, place-next, place_end}
 use Rattle.text.proofs.reading.find.Given as goal
 
 abbrev pub invariant-loop-at : goal.invariant-loop-at

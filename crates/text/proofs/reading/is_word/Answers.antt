@@ -1,5 +1,4 @@
 -- A text of another length is another word.
-use borrow.Author.Rules.{rules}
 use borrow.Author.Tests.{eq-eqb, ne_eqb}
 use Rattle.text.specs.Text.{is_word}
 use Rattle.text.proofs.reading.is_word.Goals as goal

@@ -1,13 +1,9 @@
 -- The loop's invariant: the digits from `at` on, behind those of `n`, are all the digits of the text.
 use mathlib.Core.List.{foldl}
-use borrow.Author.Rules.{rules}
-use mathlib.Core.Path.{◌≡◌, refl, sym, ◌∙◌}
-use mathlib.Core.Logic.{⊎_elim}
-use native.Mathlib.Omega.{arith}
+use mathlib.Core.Path.{◌≡◌}
 use Prim.Native.Nat.{◌-◌, ◌≤◌}
-use lib.ListN.{length, drop, get_or}
+use lib.ListN.{length, drop}
 use Rattle.text.specs.Text.{digit}
-use Rattle.text.proofs.Places.{number-empty, number-zero, number_digits, digits-next, digits-end}
 use Rattle.text.proofs.reading.number.Given as goal
 
 abbrev pub invariant-loop-at : goal.invariant-loop-at

@@ -1,9 +1,6 @@
 use borrow.Author.Rules.{rules}
-use mathlib.Core.Path.{◌≡◌, refl, sym, ◌∙◌}
-use Prim.Native.Nat.{◌-◌, ◌≤◌}
+use mathlib.Core.Path.{refl, sym, ◌∙◌}
 use native.Mathlib.Omega.{arith}
-use lib.ListN.{length, drop}
-use Rattle.text.specs.Text.{starts_with}
 use Rattle.text.proofs.Places.{key_end, text-short, bytes_differ, bytes_same}
 use Rattle.text.proofs.reading.starts_with.Goals as goal
 
@@ -14,14 +11,10 @@ pub loop-at-init : goal.loop-at-init
 loop-at-init c = (search rules, refl)
 
 pub returns-then-text-at : goal.returns-then-text-at
-returns-then-text-at c =
-    let turn = c in
-    sym (turn.loop-at.invariant.1 ∙ bytes_differ _ _ _ turn.loop-at-test.true (omega arith) c.if-text-at.true)
+returns-then-text-at c = sym (c.loop-at.invariant.1 ∙ bytes_differ _ _ _ c.loop-at-test.true (omega arith) c.if-text-at.true)
 
 pub loop-at-preserved : goal.loop-at-preserved
-loop-at-preserved c =
-    let turn = c in
-    (search rules, turn.loop-at.invariant.1 ∙ bytes_same _ _ _ turn.loop-at-test.true (omega arith) c.if-text-at.false)
+loop-at-preserved c = (search rules, c.loop-at.invariant.1 ∙ bytes_same _ _ _ c.loop-at-test.true (omega arith) c.if-text-at.false)
 
 pub returns : goal.returns
 returns c = sym (c.loop-at.invariant.1 ∙ key_end _ _ c.loop-at.at c.loop-at-test.false)

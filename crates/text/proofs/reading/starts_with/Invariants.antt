@@ -1,11 +1,8 @@
 -- The loop's invariant: the text begins with the key where the text from `at` on begins with the key from `at` on.
-use borrow.Author.Rules.{rules}
-use mathlib.Core.Path.{◌≡◌, refl, sym, ◌∙◌}
+use mathlib.Core.Path.{◌≡◌}
 use Prim.Native.Nat.{◌-◌, ◌≤◌}
-use native.Mathlib.Omega.{arith}
 use lib.ListN.{length, drop}
 use Rattle.text.specs.Text.{starts_with}
-use Rattle.text.proofs.Places.{key_end, text-short, bytes_differ, bytes_same}
 use Rattle.text.proofs.reading.starts_with.Given as goal
 
 abbrev pub invariant-loop-at : goal.invariant-loop-at

@@ -1,5 +1,4 @@
 -- One byte is written where there is room, and none at the end.
-use borrow.Author.Rules.{rules}
 use Rattle.text.proofs.Written.{written_byte, written_past}
 use Rattle.text.proofs.writing.put.Goals as goal
 

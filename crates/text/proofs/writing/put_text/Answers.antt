@@ -1,18 +1,12 @@
 use borrow.Author.Rules.{rules}
-use Prim.Native.Nat.{◌-◌, ◌≤◌}
-use lib.ListN.{length, take}
-use Rattle.text.specs.Writing.{Written}
-use Rattle.text.proofs.Written.{written_none, written-more, written-length, written_all}
+use Rattle.text.proofs.Written.{written_none, written-more, written_all}
 use Rattle.text.proofs.writing.put_text.Goals as goal
 
 pub loop-i-init : goal.loop-i-init
 loop-i-init c = (search rules, written_none _ _)
 
 pub loop-i-preserved : goal.loop-i-preserved
-loop-i-preserved c =
-    let turn = c in
-    let loop = turn.loop-i in
-    (search rules, written-more _ loop.i turn.loop-i-test.true loop.invariant.1 c.put-next.ensures)
+loop-i-preserved c = (search rules, written-more _ c.loop-i.i c.loop-i-test.true c.loop-i.invariant.1 c.put-next.ensures)
 
 pub returns : goal.returns
 returns c = written_all _ c.loop-i.i c.loop-i-test.false c.loop-i.invariant.1

@@ -1,9 +1,7 @@
 -- The loop's invariant: the first `i` bytes of the text are written.
-use borrow.Author.Rules.{rules}
 use Prim.Native.Nat.{◌-◌, ◌≤◌}
 use lib.ListN.{length, take}
 use Rattle.text.specs.Writing.{Written}
-use Rattle.text.proofs.Written.{written_none, written-more, written-length, written_all}
 use Rattle.text.proofs.writing.put_text.Given as goal
 
 abbrev pub invariant-loop-i : goal.invariant-loop-i

@@ -1,0 +1,5 @@
+use Rattle.std.proofs.Common.{◌-◌}
+use Rattle.forest_examples.proofs.print_parents.Given as goal
+
+abbrev pub decreases-loop-u : goal.decreases-loop-u
+decreases-loop-u g l = l.units - l.u

@@ -4,12 +4,4 @@ use Rattle.bench_engine.proofs.arriving.delivery_to.Goals as goal
 
 pub returns : goal.returns
 unfolding delivery_to
-returns c = rw (
-  c.intersection.ensures,
-  c.member.ensures,
-  c.route-way.ensures,
-  c.children-below.ensures,
-  c.group-members.ensures,
-  c.number-g.ensures,
-  c.less-at.ensures,
-)
+returns c = cc

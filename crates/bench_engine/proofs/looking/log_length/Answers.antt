@@ -37,7 +37,7 @@ returns c =
       le-ltb _ _ c.if-book-lt-BOOK.false,
       ← c.unit_count.ensures,
       lt-leb _ _ c.if-unit_count-unit.false,
-      ← c.length_of.ensures,
+      c.length_of.ensures,
     ) in
     λ t ms ps. subst (LengthPromise (bench t args.tables.now ms ps args.gauges.now) args.unit args.book.now) said
     (length-promise (bench t args.tables.now ms ps args.gauges.now) args.unit args.book.now)

@@ -1,6 +1,7 @@
 -- What the functions below `run` say of their results: each is a step of the code. Nothing here need be believed. Definitions only.
 use Rattle.std.specs.Prelude.{ℕ, ◌+◌, ◌*◌, ◌-◌, ◌%◌, ◌≤◌, ◌≡◌, Bool, true, false, ◌&&◌, not, cond, List}
-use Rattle.std.specs.Prelude.{[], ◌∷◌, ◌++◌, length, get_or, ltb, eqb}
+use Rattle.std.specs.Prelude.{[], ◌∷◌, ◌++◌, length, get_or}
+use Rattle.std.specs.Prelude.{ltb, eqb}
 use Rattle.bench_store.specs.Values.{plus, capped}
 use Rattle.model.specs.declared.Hop.{Hop}
 use Rattle.model.specs.Rules.{Answer, Refused, Sent, Repeat, Held, Taken}

@@ -12,31 +12,23 @@ returns-then-file-gt32768 c = too_long _ _ c.if-list-lt9000.false c.if-file-gt32
 
 pub returns-then-head-ne0 : goal.returns-then-head-ne0
 returns-then-head-ne0 c =
-    let head = c in let start = head in
-    line-turned _ _ start.if-list-lt9000.false (omega arith) (head.read_heading-head.ensures.refused c.if-head-ne0.true)
+    line-turned _ _ c.if-list-lt9000.false (omega arith) (c.read_heading-head.ensures.refused c.if-head-ne0.true)
     c.fault_reply.ensures c.turned_away-then-head-ne0.ensures
 
 pub overflow_add-head : goal.overflow_add-head
 overflow_add-head c =
-    let tally = c in let start = tally in
-    omega (arith, start.read_heading-head.ensures.short start.if-head-ne0.false, tally.store-tally.ensures.read.few)
+    omega (arith, c.read_heading-head.ensures.short c.if-head-ne0.false, c.store-tally.ensures.read.few)
 
 pub returns-then-tally-ne0 : goal.returns-then-tally-ne0
 returns-then-tally-ne0 c =
-    let bad = c in let tally = bad in
-    let read = tally in let head = read in let start = head in
-    events-turned _ _ start.if-list-lt9000.false (omega arith) head.read_heading-head.ensures read.if-head-ne0.false
-    tally.store-tally.ensures
-    bad.if-tally-ne0.true c.fault_reply-then-tally-ne0.ensures c.turned_away-then-tally-ne0.ensures
+    events-turned _ _ c.if-list-lt9000.false (omega arith) c.read_heading-head.ensures c.if-head-ne0.false c.store-tally.ensures
+    c.if-tally-ne0.true c.fault_reply-then-tally-ne0.ensures c.turned_away-then-tally-ne0.ensures
 
 pub overflow_sub-result : goal.overflow_sub-result
 overflow_sub-result c =
-    let read = c in
-    omega (arith, (read.read_heading-head.ensures.goes read.if-head-ne0.false).3)
+    omega (arith, (c.read_heading-head.ensures.goes c.if-head-ne0.false).3)
 
 pub returns : goal.returns
 returns c =
-    let good = c in let tally = good in
-    let read = tally in let head = read in let start = head in
-    file-read _ _ start.if-list-lt9000.false (omega arith) head.read_heading-head.ensures read.if-head-ne0.false tally.store-tally.ensures
-    (search rules) good.if-tally-ne0.false c.with_events-content.ensures
+    file-read _ _ c.if-list-lt9000.false (omega arith) c.read_heading-head.ensures c.if-head-ne0.false c.store-tally.ensures
+    (search rules) c.if-tally-ne0.false c.with_events-content.ensures

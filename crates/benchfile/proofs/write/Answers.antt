@@ -38,9 +38,7 @@ wrote events out text many room = let list = le-ltb _ _ many in let long = le-lt
 pub returns : goal.returns
 unfolding write_answer written
 returns c =
-    let call = c in
-    let found = call in
-    let a = found.args in
-    let rule = wrote a.list.now a.out.now (written a.content a.list.now) found.if-list-lt9000.false (omega arith) in
-    let part = written-part a.out.now 32768 (omega arith) call.put_file-bytes.ensures in
+    let a = c.args in
+    let rule = wrote a.list.now a.out.now (written a.content a.list.now) c.if-list-lt9000.false (omega arith) in
+    let part = written-part a.out.now 32768 (omega arith) c.put_file-bytes.ensures in
     record { answers = ap WroteBytes part.0 ∙ sym rule.0; leaves = part.1 ∙ sym rule.1 }

@@ -27,20 +27,18 @@ bounds-table-u c = (next-member c.loop-left.invariant.0 c.loop-left-test.true c.
 
 pub loop-left-smaller : goal.loop-left-smaller
 loop-left-smaller c =
-    let low = c in
-    left_less low.loop-left.invariant.0 low.loop-left-test.true low.lowest-u.ensures c.excluding-left.ensures
+    left_less c.loop-left.invariant.0 c.loop-left-test.true c.lowest-u.ensures c.excluding-left.ensures
 
 pub loop-left-preserved : goal.loop-left-preserved
 loop-left-preserved c =
-    let low = c in
-    let inv = low.loop-left.invariant in
-    let a = low.args in
+    let inv = c.loop-left.invariant in
+    let a = c.args in
     let new = degree a.groups.now in
-    let k = low.lowest-u.result in (
-      left-turn inv.0 low.loop-left-test.true low.lowest-u.ensures c.excluding-left.ensures,
-      visits_turn _ _ (updated-still a.units new _) inv.0 low.loop-left-test.true low.lowest-u.ensures
+    let k = c.lowest-u.result in (
+      left-turn inv.0 c.loop-left-test.true c.lowest-u.ensures c.excluding-left.ensures,
+      visits_turn _ _ (updated-still a.units new _) inv.0 c.loop-left-test.true c.lowest-u.ensures
           c.excluding-left.ensures inv.1
-          (λ b m e. ap (set low.loop-left.table k) c.degree.ensures
+          (λ b m e. ap (set c.loop-left.table k) c.degree.ensures
           ∙ ap (λ (l : List ℕ). set l k (new k)) e
           ∙ updated-turn a.units new _ k b m),
     )
@@ -48,6 +46,5 @@ loop-left-preserved c =
 pub returns : goal.returns
 unfolding degrees_of
 returns c =
-    let start = c in
-    visits_end _ _ (updated-still _ _ _) 32 start.ranges.units.fits (lit≤ tt) c.loop-left.invariant.1 c.loop-left-test.false
+    visits_end _ _ (updated-still _ _ _) 32 c.ranges.units.fits (lit≤ tt) c.loop-left.invariant.1 c.loop-left-test.false
     ∙ updated-all _ _ _

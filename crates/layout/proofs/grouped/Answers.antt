@@ -14,11 +14,10 @@ loop-i-init c = record { within = omega arith; right = refl }
 pub loop-i-preserved : goal.loop-i-preserved
 unfolding grouped_within
 loop-i-preserved c =
-    let turn = c in
-    let inv = turn.loop-i.invariant in
-    let gs = turn.args.groups.now in
-    reached-turn inv turn.loop-i-test.true
-    (c.union-set.ensures ∙ ap (λ (x : ℕ). union x (get_or gs turn.loop-i.i 0)) inv.right)
+    let inv = c.loop-i.invariant in
+    let gs = c.args.groups.now in
+    reached-turn inv c.loop-i-test.true
+    (c.union-set.ensures ∙ ap (λ (x : ℕ). union x (get_or gs c.loop-i.i 0)) inv.right)
 
 pub returns : goal.returns
 returns c = reached-all c.loop-i.invariant c.loop-i-test.false

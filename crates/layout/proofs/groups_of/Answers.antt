@@ -8,8 +8,7 @@ loop-i-init c = collected_none _
 pub loop-i-preserved : goal.loop-i-preserved
 unfolding holds_at
 loop-i-preserved c =
-    let turn = c in
-    collected_turn _ turn.loop-i.invariant turn.loop-i-test.true c.member.ensures c.including_if-set.ensures
+    collected_turn _ c.loop-i.invariant c.loop-i-test.true c.member.ensures c.including_if-set.ensures
 
 pub returns : goal.returns
 unfolding groups_of

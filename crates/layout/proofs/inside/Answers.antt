@@ -7,8 +7,7 @@ loop-i-init c = collected_none _
 
 pub loop-i-preserved : goal.loop-i-preserved
 loop-i-preserved c =
-    let turn = c in
-    collected_turn _ turn.loop-i.invariant turn.loop-i-test.true c.lies.ensures c.including_if-set.ensures
+    collected_turn _ c.loop-i.invariant c.loop-i-test.true c.lies.ensures c.including_if-set.ensures
 
 pub returns : goal.returns
 unfolding inside_of

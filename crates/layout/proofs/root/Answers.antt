@@ -6,22 +6,18 @@ use Rattle.layout.proofs.root.Goals.{then-degrees-r, else-degrees-r}
 
 pub loop-left-init : goal.loop-left-init
 loop-left-init c =
-    let start = c in
-    best-first _ start.ranges.part.fits start.requires.1 c.lowest-r.ensures c.excluding-left.ensures
+    best-first _ c.ranges.part.fits c.requires.1 c.lowest-r.ensures c.excluding-left.ensures
 
 pub bounds-degrees-r : goal.bounds-degrees-r
 bounds-degrees-r c = c.loop-left.invariant.small
 
 pub bounds-degrees-k : goal.bounds-degrees-k
 bounds-degrees-k c =
-    let turn = c in
-    (next-member turn.loop-left.invariant.others turn.loop-left-test.true c.lowest-k.ensures).0
+    (next-member c.loop-left.invariant.others c.loop-left-test.true c.lowest-k.ensures).0
 
 pub loop-left-smaller : goal.loop-left-smaller
 loop-left-smaller c =
-    let next = c in
-    let turn = next in
-    left_less turn.loop-left.invariant.others turn.loop-left-test.true next.lowest-k.ensures c.excluding-left-in-loop-left.ensures
+    left_less c.loop-left.invariant.others c.loop-left-test.true c.lowest-k.ensures c.excluding-left-in-loop-left.ensures
 
 pub loop-left-preserved : goal.loop-left-preserved
 unfolding degree_in

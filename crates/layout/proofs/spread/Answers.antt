@@ -36,20 +36,17 @@ bounds-groups-k c =
 
 pub loop-left-smaller : goal.loop-left-smaller
 loop-left-smaller c =
-    let turn = c in
-    left_less turn.loop-left.invariant.0 turn.loop-left-test.true c.lowest-k.ensures c.excluding-left.ensures
+    left_less c.loop-left.invariant.0 c.loop-left-test.true c.lowest-k.ensures c.excluding-left.ensures
 
 pub loop-left-preserved : goal.loop-left-preserved
 unfolding spread
 loop-left-preserved c =
-    let turn = c in
-    let inv = turn.loop-left.invariant in
-    let start = turn in
-    let a = start.args in
+    let inv = c.loop-left.invariant in
+    let a = c.args in
     let gs = a.groups.now in
     let low = c.lowest-k in (
-      left-turn inv.0 turn.loop-left-test.true low.ensures c.excluding-left.ensures,
-      visits_turn _ _ (spread-still gs a.live a.s start.requires) inv.0 turn.loop-left-test.true low.ensures
+      left-turn inv.0 c.loop-left-test.true low.ensures c.excluding-left.ensures,
+      visits_turn _ _ (spread-still gs a.live a.s c.requires) inv.0 c.loop-left-test.true low.ensures
           c.excluding-left.ensures inv.1
           (λ b m e. c.absorbed-set.ensures ∙ ap (λ (x : ℕ). absorbed x (get_or gs low.result 0) true) e
           ∙ ap (absorbed (spread low.result gs a.live a.s) (get_or gs low.result 0))
@@ -58,7 +55,6 @@ loop-left-preserved c =
 
 pub returns : goal.returns
 returns c =
-    let start = c in
-    let a = start.args in
-    visits_end _ _ (spread-still a.groups.now a.live a.s start.requires) 24 (live_below a.live) (lit≤ tt)
+    let a = c.args in
+    visits_end _ _ (spread-still a.groups.now a.live a.s c.requires) 24 (live_below a.live) (lit≤ tt)
     c.loop-left.invariant.1 c.loop-left-test.false

@@ -3,10 +3,9 @@ use Rattle.runner.proofs.refused.Goals as goal
 
 pub returns : goal.returns
 returns c =
-    let call = c in
     record {
-      place = call.put_refusal-bytes.result;
+      place = c.put_refusal-bytes.result;
       says = c.printed.ensures.0;
-      prints = call.put_refusal-bytes.ensures;
+      prints = c.put_refusal-bytes.ensures;
       sum = c.printed.ensures.1;
     }

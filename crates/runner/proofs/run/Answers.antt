@@ -9,26 +9,20 @@ returns-then-out-lt-OUTPUT c = run_short _ _ c.if-out-lt-OUTPUT.true
 
 pub returns-then-number-ne0 : goal.returns-then-number-ne0
 returns-then-number-ne0 c =
-    let line = c in let number = line in let read = number in
-    run-turned _ _ _ read.read-answer.result refl read.read-answer.ensures _ _ _ read.if-out-lt-OUTPUT.false
-    number.reply_number-number.ensures line.reply_line-line.ensures
+    run-turned _ _ _ c.read-answer.result refl c.read-answer.ensures _ _ _ c.if-out-lt-OUTPUT.false
+    c.reply_number-number.ensures c.reply_line-line.ensures
     c.if-number-ne0.true c.refused.ensures
 
 pub slice_bounds-list-end : goal.slice_bounds-list-end
 slice_bounds-list-end c =
-    let read = c in
-    omega (arith, count_fits _ _ _ read.read-answer.result refl read.read-answer.ensures, c.reply_count-count.ensures)
+    omega (arith, count_fits _ _ _ c.read-answer.result refl c.read-answer.ensures, c.reply_count-count.ensures)
 
 pub slice_bounds-run_content-end : goal.slice_bounds-run_content-end
 slice_bounds-run_content-end c =
-    let read = c in
-    count-length _ _ _ read.read-answer.result refl read.read-answer.ensures _ c.reply_count-count.ensures
+    count-length _ _ _ c.read-answer.result refl c.read-answer.ensures _ c.reply_count-count.ensures
 
 pub returns : goal.returns
 returns c =
-    let count = c in let line = count in let number = line in
-    let read = number in
-    run-read _ _ _ read.read-answer.result refl read.read-answer.ensures _ _ _ read.if-out-lt-OUTPUT.false
-    number.reply_number-number.ensures
-    line.reply_line-line.ensures
-    count.if-number-ne0.false (rw count.reply_count-count.ensures at c.run_content.ensures)
+    run-read _ _ _ c.read-answer.result refl c.read-answer.ensures _ _ _ c.if-out-lt-OUTPUT.false c.reply_number-number.ensures
+    c.reply_line-line.ensures
+    c.if-number-ne0.false (rw c.reply_count-count.ensures at c.run_content.ensures)

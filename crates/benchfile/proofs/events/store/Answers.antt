@@ -4,8 +4,7 @@ use Rattle.benchfile.proofs.events.store.Goals as goal
 
 pub returns-then-tally-eq0 : goal.returns-then-tally-eq0
 returns-then-tally-eq0 c =
-    let copied = c in let good = copied in
-    stored-good good.read_events-tally.ensures good.if-tally-eq0.true copied.copy.ensures
+    stored-good c.read_events-tally.ensures c.if-tally-eq0.true c.copy.ensures
 
 pub returns-else-tally-eq0 : goal.returns-else-tally-eq0
 returns-else-tally-eq0 c = stored-bad c.read_events-tally.ensures c.if-tally-eq0.false

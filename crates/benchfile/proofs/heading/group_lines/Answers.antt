@@ -7,13 +7,11 @@ loop-i-init c = groups_none _ _ _
 
 pub returns-then-line-ne0 : goal.returns-then-line-ne0
 returns-then-line-ne0 c =
-    let turn = c in
-    groups-refused turn.loop-i.invariant turn.loop-i-test.true _ c.group-line.ensures c.if-line-ne0.true
+    groups-refused c.loop-i.invariant c.loop-i-test.true _ c.group-line.ensures c.if-line-ne0.true
 
 pub overflow_add-at : goal.overflow_add-at
 overflow_add-at c =
-    let line = c in let turn = line in
-    omega (arith, group-inside turn.loop-i.invariant turn.loop-i-test.true _ line.group-line.ensures c.if-line-ne0.false)
+    omega (arith, group-inside c.loop-i.invariant c.loop-i-test.true _ c.group-line.ensures c.if-line-ne0.false)
 
 pub overflow_add-i : goal.overflow_add-i
 overflow_add-i c = omega arith
@@ -23,8 +21,7 @@ loop-i-smaller c = omega arith
 
 pub loop-i-preserved : goal.loop-i-preserved
 loop-i-preserved c =
-    let line = c in let turn = line in
-    groups-turn turn.loop-i.invariant turn.loop-i-test.true _ line.group-line.ensures c.if-line-ne0.false
+    groups-turn c.loop-i.invariant c.loop-i-test.true _ c.group-line.ensures c.if-line-ne0.false
     c.with_group-next.ensures
 
 pub returns : goal.returns

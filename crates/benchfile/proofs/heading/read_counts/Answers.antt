@@ -15,36 +15,31 @@ slice_bounds-groups-count c = first-inside _ _ c.units-first.ensures c.if-first-
 
 pub returns-then-second-ne0 : goal.returns-then-second-ne0
 returns-then-second-ne0 c =
-    let second = c in let turn = second in
-    counts-refused (second-bad _ _ turn.units-first.ensures turn.if-first-ne0.false _ second.groups-second.ensures
+    counts-refused (second-bad _ _ c.units-first.ensures c.if-first-ne0.false _ c.groups-second.ensures
     c.if-second-ne0.true)
     c.no_counts-then-second-ne0.ensures
 
 pub overflow_add-result : goal.overflow_add-result
 overflow_add-result c =
-    let second = c in let turn = second in
     omega (
       arith,
-      second-inside _ _ turn.units-first.ensures turn.if-first-ne0.false _ second.groups-second.ensures
+      second-inside _ _ c.units-first.ensures c.if-first-ne0.false _ c.groups-second.ensures
           c.if-second-ne0.false,
     )
 
 pub overflow_cast-result : goal.overflow_cast-result
 overflow_cast-result c =
-    let turn = c in
-    omega (arith, first-most _ _ turn.units-first.ensures turn.if-first-ne0.false)
+    omega (arith, first-most _ _ c.units-first.ensures c.if-first-ne0.false)
 
 pub overflow_cast-result-2 : goal.overflow_cast-result-2
 overflow_cast-result-2 c =
-    let second = c in let turn = second in
     omega (
       arith,
-      second-most _ _ turn.units-first.ensures turn.if-first-ne0.false _ second.groups-second.ensures
+      second-most _ _ c.units-first.ensures c.if-first-ne0.false _ c.groups-second.ensures
           c.if-second-ne0.false,
     )
 
 pub returns : goal.returns
 returns c =
-    let second = c in let turn = second in
-    counts-read _ _ turn.units-first.ensures turn.if-first-ne0.false _ second.groups-second.ensures
+    counts-read _ _ c.units-first.ensures c.if-first-ne0.false _ c.groups-second.ensures
     c.if-second-ne0.false

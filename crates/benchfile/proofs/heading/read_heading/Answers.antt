@@ -8,35 +8,28 @@ returns-then-first-ne0 c = heading_refused (c.read_counts-first.ensures.refused 
 
 pub returns-then-found-ne0 : goal.returns-then-found-ne0
 returns-then-found-ne0 c =
-    let found = c in let first = found in
     heading_refused
-    (groups-bad first.read_counts-first.ensures first.if-first-ne0.false found.group_lines-found.ensures
+    (groups-bad c.read_counts-first.ensures c.if-first-ne0.false c.group_lines-found.ensures
     c.if-found-ne0.true)
     c.no_heading-then-found-ne0.ensures
 
 pub returns-then-drawing-ne0 : goal.returns-then-drawing-ne0
 returns-then-drawing-ne0 c =
-    let drawn = c in let found = drawn in
-    let first = found in
     heading_refused
-    (drawing-bad first.read_counts-first.ensures first.if-first-ne0.false found.group_lines-found.ensures
-    drawn.if-found-ne0.false
-    drawn.parents-drawing.ensures c.if-drawing-ne0.true) c.no_heading-then-drawing-ne0.ensures
+    (drawing-bad c.read_counts-first.ensures c.if-first-ne0.false c.group_lines-found.ensures
+    c.if-found-ne0.false
+    c.parents-drawing.ensures c.if-drawing-ne0.true) c.no_heading-then-drawing-ne0.ensures
 
 pub overflow_add-result-2 : goal.overflow_add-result-2
 overflow_add-result-2 c =
-    let drawn = c in
-    let found = drawn in let first = found in
     omega (
       arith,
-      drawing-inside first.read_counts-first.ensures first.if-first-ne0.false found.group_lines-found.ensures
-          drawn.if-found-ne0.false drawn.parents-drawing.ensures c.if-drawing-ne0.false,
+      drawing-inside c.read_counts-first.ensures c.if-first-ne0.false c.group_lines-found.ensures
+          c.if-found-ne0.false c.parents-drawing.ensures c.if-drawing-ne0.false,
     )
 
 pub returns : goal.returns
 returns c =
-    let drawn = c in
-    let found = drawn in let first = found in
-    heading_read first.read_counts-first.ensures first.if-first-ne0.false found.group_lines-found.ensures
-    drawn.if-found-ne0.false
-    drawn.parents-drawing.ensures c.if-drawing-ne0.false
+    heading_read c.read_counts-first.ensures c.if-first-ne0.false c.group_lines-found.ensures
+    c.if-found-ne0.false
+    c.parents-drawing.ensures c.if-drawing-ne0.false

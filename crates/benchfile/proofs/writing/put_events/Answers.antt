@@ -20,9 +20,8 @@ returns-then-list-i-lt3 c =
 
 pub loop-k-preserved : goal.loop-k-preserved
 loop-k-preserved c =
-    let head = c in
-    let loop = head.loop-k in
-    let ns = head.args.list.now in (
+    let loop = c.loop-k in
+    let ns = c.args.list.now in (
       search rules,
       search rules,
       search rules,

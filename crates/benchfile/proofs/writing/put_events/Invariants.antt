@@ -11,8 +11,8 @@ use Rattle.benchfile.proofs.writing.put_events.Given as goal
 
 abbrev pub invariant-loop-k : goal.invariant-loop-k
 invariant-loop-k l =
-    (l.k ≤ l.count) × (l.i ≡ 3 * l.k) × (l.i ≤ length l.list) × Written (ended (map event_line (events_from l.k l.list))) l.at
-    l.initial.out l.next l.out
+    (l.k ≤ l.count) × (l.i ≡ 3 * l.k) × (l.i ≤ length l.list)
+    × Written (ended (map event_line (events_from l.k l.list))) l.at l.initial.out l.next l.out
 
 abbrev pub decreases-loop-k : goal.decreases-loop-k
 decreases-loop-k l = l.count - l.k

@@ -7,13 +7,7 @@ use Rattle.benchfile.proofs.writing.put_file.Goals as goal
 pub returns : goal.returns
 unfolding file_of units_key groups_key
 returns c =
-    let events = c in
-    let parents = events in
-    let groups = parents in
-    let count = groups in
-    let units = count in
-    let counted = units in
-    let args = counted.args in
-    written-file (file_of args.content args.list.now) units.put_count-a.ensures
-    (rw counted.counted-count.ensures at count.put_count-b.ensures)
-    groups.put_groups-c.ensures parents.put_parents-d.ensures events.put_events.ensures
+    let args = c.args in
+    written-file (file_of args.content args.list.now) c.put_count-a.ensures
+    (rw c.counted-count.ensures at c.put_count-b.ensures)
+    c.put_groups-c.ensures c.put_parents-d.ensures c.put_events.ensures

@@ -24,9 +24,8 @@ returns-then-i-ge24 c =
 
 pub loop-i-preserved : goal.loop-i-preserved
 loop-i-preserved c =
-    let turn = c in
-    let loop = turn.loop-i in
-    let gs = turn.args.groups in
+    let loop = c.loop-i in
+    let gs = c.args.groups in
     let all : length gs ≡ 24 = search rules in
     (search rules, search rules, written-turn group_line gs loop.i (omega arith) loop.invariant.2 c.put_group-next.ensures)
 

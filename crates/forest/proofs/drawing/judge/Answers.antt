@@ -7,13 +7,11 @@ use Rattle.forest.proofs.drawing.judge.Goals as goal
 pub returns-then-is_accepted : goal.returns-then-is_accepted
 unfolding accepts
 returns-then-is_accepted c =
-    let b = c in
     c.judge_parents.ensures
-    ∙ sym (groups-rest _ _ _ _ _ b.judge-first.ensures
-    ∙ cond-true _ _ _ (sym b.is_accepted.ensures ∙ c.if-is_accepted.true))
+    ∙ sym (groups-rest _ _ _ _ _ c.judge-first.ensures
+    ∙ cond-true _ _ _ (sym c.is_accepted.ensures ∙ c.if-is_accepted.true))
 
 pub returns : goal.returns
 unfolding accepts
 returns c =
-    let b = c in
-    sym (groups-rest _ _ _ _ _ b.judge-first.ensures ∙ cond-false _ _ _ (sym b.is_accepted.ensures ∙ c.if-is_accepted.false))
+    sym (groups-rest _ _ _ _ _ c.judge-first.ensures ∙ cond-false _ _ _ (sym c.is_accepted.ensures ∙ c.if-is_accepted.false))

@@ -19,11 +19,10 @@ returns-then-places-ne0-2 c =
 pub returns-then-bad-ne0 : goal.returns-then-bad-ne0
 unfolding refusal drawing_refusal refuse faulty outside_parents cyclic_units without_primary
 returns-then-bad-ne0 c =
-    let b = c in
     let e = c.places-bad.ensures in
     rw (
-      is_zero b.places.ensures b.if-places-ne0.false,
-      is_zero b.places-2.ensures b.if-places-ne0-2.false,
+      is_zero c.places.ensures c.if-places-ne0.false,
+      is_zero c.places-2.ensures c.if-places-ne0-2.false,
       no_zero e c.if-bad-ne0.true,
       c.lowest-first.ensures,
       e,
@@ -32,9 +31,8 @@ returns-then-bad-ne0 c =
 pub returns : goal.returns
 unfolding refusal drawing_refusal refuse faulty outside_parents cyclic_units without_primary
 returns c =
-    let b = c in
     rw (
-      is_zero b.places.ensures b.if-places-ne0.false,
-      is_zero b.places-2.ensures b.if-places-ne0-2.false,
+      is_zero c.places.ensures c.if-places-ne0.false,
+      is_zero c.places-2.ensures c.if-places-ne0-2.false,
       is_zero c.places-bad.ensures c.if-bad-ne0.false,
     )

@@ -19,19 +19,17 @@ returns-then-places-ne0 c =
 pub returns-then-places-ne0-2 : goal.returns-then-places-ne0-2
 unfolding refusal groups_refusal refuse faulty empty_groups outside_groups
 returns-then-places-ne0-2 c =
-    let b = c in
     rw (
-      sym b.bad_counts.ensures ∙ b.if-bad_counts.false,
-      is_zero b.places.ensures b.if-places-ne0.false,
+      sym c.bad_counts.ensures ∙ c.if-bad_counts.false,
+      is_zero c.places.ensures c.if-places-ne0.false,
       no_zero c.places-2.ensures c.if-places-ne0-2.true,
     )
 
 pub returns : goal.returns
 unfolding refusal groups_refusal refuse faulty empty_groups outside_groups
 returns c =
-    let b = c in
     rw (
-      sym b.bad_counts.ensures ∙ b.if-bad_counts.false,
-      is_zero b.places.ensures b.if-places-ne0.false,
+      sym c.bad_counts.ensures ∙ c.if-bad_counts.false,
+      is_zero c.places.ensures c.if-places-ne0.false,
       is_zero c.places-2.ensures c.if-places-ne0-2.false,
     )

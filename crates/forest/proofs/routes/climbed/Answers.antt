@@ -13,10 +13,8 @@ returns-then-u-ge32 c = climbed_all c.loop-left.invariant (no_ancestors _ _ _ c.
 
 pub loop-left-preserved : goal.loop-left-preserved
 loop-left-preserved c =
-    let step = c in
-    let turn = step in
-    rw c.index-u.ensures (climbed_turn turn.loop-left.invariant turn.loop-left-test.true step.if-u-ge32.false
-    (omega (arith, turn.requires, step.if-u-ge32.false)) step.including-set.ensures)
+    rw c.index-u.ensures (climbed_turn c.loop-left.invariant c.loop-left-test.true c.if-u-ge32.false
+    (omega (arith, c.requires, c.if-u-ge32.false)) c.including-set.ensures)
 
 pub returns : goal.returns
 unfolding ancestors_within

@@ -6,9 +6,8 @@ use Rattle.runner.proofs.events.run_event.Goals as goal
 pub returns-then-is_send : goal.returns-then-is_send
 unfolding after_send
 returns-then-is_send c =
-    let promise =
-    rw (c.totals_of-totals.ensures, c.source.ensures, c.second-second.ensures, c.third.ensures) at (c.send-sent.ensures c.args.gauges.now)
-    in
+    let told = c.send-sent.ensures c.args.gauges.now in
+    let promise = rw (c.totals_of-totals.ensures, c.source.ensures, c.second-second.ensures, c.third.ensures) at told in
     rw c.after_send.ensures (sent c.send-sent.result (sym c.if-is_send.ensures) promise)
 
 pub returns : goal.returns

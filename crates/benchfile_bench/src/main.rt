@@ -92,7 +92,7 @@ fn main(rt: HostRuntime) -> io::Result<()> {
     // a longer word names neither
     let length = rt.arg(1, &mut word).unwrap_or(0);
     let mut file = [0u8; 32768];
-    // `copy` says nothing of how much came, hence `min`
+    // `copy` promises no bound on what it read, so `min` gives one
     let read = io::copy(&mut rt.stdin().take(32768), &mut file.as_mut_slice())?;
     let size = read.min(32768) as usize;
     run_named(&rt, &word[..length], &file[..size])

@@ -9,7 +9,7 @@ use std::io::Read;
 fn main(rt: HostRuntime) -> io::Result<()> {
     let mut file = [0u8; 32769];
     let mut out = [0u8; RunAnswer::OUTPUT];
-    // `copy` says nothing of how much came, hence `min`
+    // `copy` promises no bound on what it read, so `min` gives one
     let read = io::copy(&mut rt.stdin().take(32769), &mut file.as_mut_slice())?;
     let size = read.min(32769) as usize;
     let answer = runner::run(&file[..size], &mut out);

@@ -1,3 +1,4 @@
+-- The measure is how many reads are left.
 use Rattle.std.proofs.Common.{◌-◌}
 use Rattle.benchfile_bench.proofs.reads.Given as goal
 

@@ -1,3 +1,4 @@
+-- The measure is how many writes are left.
 use Rattle.std.proofs.Common.{◌-◌}
 use Rattle.benchfile_bench.proofs.writes.Given as goal
 

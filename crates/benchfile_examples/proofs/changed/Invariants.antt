@@ -1,3 +1,4 @@
+-- The measure is how many numbers are left.
 use Rattle.std.proofs.Common.{◌-◌, length}
 use Rattle.benchfile_examples.proofs.changed.Given as goal
 

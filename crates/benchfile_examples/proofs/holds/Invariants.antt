@@ -1,3 +1,4 @@
+-- The measure is how many bytes are left.
 use Rattle.std.proofs.Common.{◌-◌, length}
 use Rattle.benchfile_examples.proofs.holds.Given as goal
 

@@ -1,3 +1,4 @@
+-- The measure is how many lines are left.
 use Rattle.std.proofs.Common.{◌-◌}
 use Rattle.benchfile_examples.proofs.repeated.Given as goal
 

@@ -1,3 +1,4 @@
+-- The measure is how many groups are left.
 use Rattle.std.proofs.Common.{◌-◌}
 use Rattle.forest_bench.proofs.chain.Given as goal
 

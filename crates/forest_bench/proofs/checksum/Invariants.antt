@@ -1,3 +1,4 @@
+-- The measure is how many turns are left.
 use Rattle.std.proofs.Common.{◌-◌}
 use Rattle.forest_bench.proofs.checksum.Given as goal
 

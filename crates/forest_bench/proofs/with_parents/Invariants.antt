@@ -1,3 +1,4 @@
+-- The measure is how many parents are left.
 use Rattle.std.proofs.Common.{◌-◌}
 use Rattle.forest_bench.proofs.with_parents.Given as goal
 

@@ -1,3 +1,4 @@
+-- The measure is how many units are left.
 use Rattle.std.proofs.Common.{◌-◌}
 use Rattle.forest_examples.proofs.print_parents.Given as goal
 

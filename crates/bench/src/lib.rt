@@ -152,6 +152,7 @@ fn choose(test: bool, a: usize, b: usize) -> usize
 }
 
 // Whether a lent list is too short.
+#[tactic(auto, unfolding(bench_promises::specs::Machine::is_short))]
 fn is_short(hops: usize, book: usize) -> bool
     ensures { result ≡ is_short hops book }
 {
@@ -188,6 +189,7 @@ fn empty(
 }
 
 // What `fresh` answers.
+#[tactic(auto, unfolding(crate::specs::Lists::fresh_with))]
 fn begun(
     short: bool,
     units: usize,

@@ -1,6 +1,6 @@
 -- What the functions on a bench's lists answer and leave. Definitions only.
-use Rattle.std.specs.Prelude.{ℕ, zero, suc, ◌+◌, ◌*◌, min, Bool, ◌&&◌, cond, List, [], ◌++◌, length, get_or, set, take}
-use Rattle.std.specs.Prelude.{drop, replicate, ltb, leb}
+use Rattle.std.specs.Prelude.{ℕ, zero, suc, ◌+◌, ◌*◌, min, Bool, ◌&&◌, cond, List, [], ◌++◌, length, get_or, set}
+use Rattle.std.specs.Prelude.{take, drop, replicate, ltb, leb}
 
 -- a number in 16 bits; 65,535 for every greater one
 unfoldable pub capped : ℕ → ℕ

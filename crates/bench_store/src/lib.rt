@@ -27,6 +27,7 @@ impl Limits {
 }
 
 // A number in 16 bits; 65,535 for every greater one.
+#[tactic(auto, unfolding(crate::specs::Values::capped))]
 pub fn capped(n: u32) -> u16
     ensures { result ≡ cappedOf n }
 {
@@ -44,6 +45,7 @@ pub fn plus(a: u16, b: u16) -> u16
 }
 
 // A number below 256; 0 for any other.
+#[tactic(auto, unfolding(crate::specs::Values::byte))]
 pub fn byte(n: u16) -> u8
     ensures { result ≡ byte_of n }
 {

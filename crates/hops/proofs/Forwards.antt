@@ -70,10 +70,9 @@ module _ {start : Forwarding} {hs : List Hop} where
 module _ {start : Forwarding} {hs : List Hop} where
   pub lent-turned : (k : ℕ) (o : Outgoing) (cs : List (List (List ℕ))) (zs : List Hop) → o.children < 2 ^ 32
       → T (is_left (with_pairs [] o)) → Reaches start hs k (with_pairs cs o) zs
-      → (j : ℕ) × Reaches start hs j (with_pairs (forwarding_after_next (with_pairs cs o)).pairs
-      (without_pairs (forwarding_after_next (with_pairs [] o))))
-      (set zs
-      o.made (next_hop (with_pairs cs o)))
+      → (j : ℕ) × Reaches start hs j
+      (with_pairs (forwarding_after_next (with_pairs cs o)).pairs (without_pairs (forwarding_after_next (with_pairs [] o))))
+      (set zs o.made (next_hop (with_pairs cs o)))
   unfolding with_pairs without_pairs is_left forwarding_after_next
   lent-turned k o cs zs fits left r = turned k (with_pairs cs o) zs fits left r
 

@@ -122,6 +122,7 @@ fn no_hop() -> model::Hop
 }
 
 // Whether the hop goes from a sender to a receiver.
+#[tactic(auto, unfolding(model::specs::Network::is_pair))]
 fn is_pair(hop: model::Hop, sender: u8, receiver: u8) -> bool
     ensures { result ≡ is_pair sender receiver hop }
 {

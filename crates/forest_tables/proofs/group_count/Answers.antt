@@ -4,4 +4,4 @@ use Rattle.forest_tables.proofs.group_count.Goals as goal
 
 pub returns : goal.returns
 unfolding group_count
-returns c = rw (← c.number-low.ensures, ← c.number-high.ensures) c.joined.ensures
+returns c = rw (c.number-low.ensures, c.number-high.ensures) at c.joined.ensures

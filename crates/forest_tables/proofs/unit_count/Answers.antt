@@ -4,4 +4,4 @@ use Rattle.forest_tables.proofs.unit_count.Goals as goal
 
 pub returns : goal.returns
 unfolding unit_count
-returns c = rw (← c.number-low.ensures, ← c.number-high.ensures) c.joined.ensures
+returns c = rw (c.number-low.ensures, c.number-high.ensures) at c.joined.ensures

@@ -1,6 +1,5 @@
 -- The loop keeps that what is left leads to the end that the start leads to (`Reaches` of Forwards.antt), and that its children are a set
--- of
--- units. A turn leaves fewer children.
+-- of units. A turn leaves fewer children.
 use Prim.Native.Nat.{ℕ, ◌<◌, ◌^◌}
 use Rattle.sets.specs.Sets.{size}
 use Rattle.hops.specs.Access.{with_pairs}

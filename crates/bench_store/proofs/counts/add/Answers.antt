@@ -16,19 +16,13 @@ returns-then-pairs-k c = simp (le-ltb _ _ c.if-pairs-k.true) (none_more _ c.rang
 
 pub returns-then-sender-ge-UNITS : goal.returns-then-sender-ge-UNITS
 unfolding count_in added_in is_pair
-returns-then-sender-ge-UNITS c = simp (lt-ltb _ _ c.if-pairs-k.false, le-ltb _ _ c.if-sender-ge-UNITS.true) (
-  none_more _ c.ranges.n.fits,
-  refl,
-)
+returns-then-sender-ge-UNITS c = simp (lt-ltb _ _ c.if-pairs-k.false, le-ltb _ _ c.if-sender-ge-UNITS.true)
+    (none_more _ c.ranges.n.fits, refl)
 
 pub returns-then-receiver-ge-UNITS : goal.returns-then-receiver-ge-UNITS
 unfolding count_in added_in is_pair
-returns-then-receiver-ge-UNITS c = simp (
-  lt-ltb _ _ c.if-pairs-k.false,
-  lt-ltb _ _ c.if-sender-ge-UNITS.false,
-  le-ltb _ _
-      c.if-receiver-ge-UNITS.true,
-)
+returns-then-receiver-ge-UNITS c =
+    simp (lt-ltb _ _ c.if-pairs-k.false, lt-ltb _ _ c.if-sender-ge-UNITS.false, le-ltb _ _ c.if-receiver-ge-UNITS.true)
     (none_more _ c.ranges.n.fits, refl)
 
 pub returns : goal.returns

@@ -13,12 +13,8 @@ returns-then-sender-ge-UNITS c = simp (lt-ltb _ _ c.if-pairs-k.false, le-ltb _ _
 
 pub returns-then-receiver-ge-UNITS : goal.returns-then-receiver-ge-UNITS
 unfolding count_in is_pair
-returns-then-receiver-ge-UNITS c = simp (
-  lt-ltb _ _ c.if-pairs-k.false,
-  lt-ltb _ _ c.if-sender-ge-UNITS.false,
-  le-ltb _ _
-      c.if-receiver-ge-UNITS.true,
-)
+returns-then-receiver-ge-UNITS c =
+    simp (lt-ltb _ _ c.if-pairs-k.false, lt-ltb _ _ c.if-sender-ge-UNITS.false, le-ltb _ _ c.if-receiver-ge-UNITS.true)
 
 pub returns : goal.returns
 unfolding count_in is_pair

@@ -19,12 +19,8 @@ returns-then-sender-ge-UNITS c = simp (lt-ltb _ _ c.if-pairs-k.false, le-ltb _ _
 
 pub returns-then-receiver-ge-UNITS : goal.returns-then-receiver-ge-UNITS
 unfolding count_in added_in is_pair plus capped
-returns-then-receiver-ge-UNITS c = simp (
-  lt-ltb _ _ c.if-pairs-k.false,
-  lt-ltb _ _ c.if-sender-ge-UNITS.false,
-  le-ltb _ _
-      c.if-receiver-ge-UNITS.true,
-) (refl, refl)
+returns-then-receiver-ge-UNITS c =
+    simp (lt-ltb _ _ c.if-pairs-k.false, lt-ltb _ _ c.if-sender-ge-UNITS.false, le-ltb _ _ c.if-receiver-ge-UNITS.true) (refl, refl)
 
 -- the count read in the row just raised
 raised_at : (row l : List ℕ) (r : ℕ) → length l ≡ 32 → l ≡ added row r 1 → r < 32 → get_or l r 0 ≡ plus (get_or row r 0) 1

@@ -5,7 +5,6 @@ use Prim.Native.Nat.{◌≤◌}
 use lib.ListN.{length, get_or}
 use Rattle.text.proofs.Places.{number-empty, number-zero, number_digits, digits-next, digits-end}
 use Rattle.text.proofs.reading.number.Goals as goal
-use Rattle.text.proofs.reading.number.Goals.{then-text-eq48+else-text-gt1, else-text-eq48}
 
 pub returns-then-text-eq0 : goal.returns-then-text-eq0
 returns-then-text-eq0 c = sym (number-empty _ c.if-text-eq0.true)

@@ -1,17 +1,19 @@
-// The bench by value. Its calls take it apart, lend its arrays to the calls of `bench_engine`, and put it together again: no call has a
-// code of its own. Only a fresh bench is made here.
+// The bench by value. Its calls lend its arrays to the calls of `bench_engine`: no call has a code of its own. Only a fresh bench is made
+// here.
 #![tactic(auto)]
 
-ghost use Rattle.std.specs.Prelude.{◌≡◌, cond};
+ghost use Rattle.std.specs.Prelude.{◌≡◌, cond, Err, Ok};
 ghost use Rattle.bench_promises.specs.Machine.{is_short};
 ghost use Rattle.bench_promises.specs.Promises.{FreshPromise, SendPromise, ArrivePromise, RestPromise, LogPromise, LogPlace};
 ghost use Rattle.bench_promises.specs.Promises.{LengthPromise};
-ghost use Rattle.bench.specs.Lists.{lists_of, with_lists, empty_bench, fresh_with, sent_with, arrived_with};
+ghost use Rattle.bench.specs.Lists.{lists_of, empty_bench, fresh_reply};
 
-use bench_promises::{ArriveReply, FreshReply, LogReply, RestReply, SendReply, Totals};
+use bench_promises::{
+    ArriveReply, FreshReply, ListTooShort, LogReply, RestReply, SendReply, Totals,
+};
+use bench_store::Limits;
 use bench_store::columns::{Gauges, Messages};
 use bench_store::counts::PairCounts;
-use bench_store::{Limits, counts};
 use forest_tables::Tables;
 
 #[derive(Clone, Copy)]
@@ -48,121 +50,8 @@ pub struct Arrived {
     pub reply: ArriveReply,
 }
 
-// ---- a bench taken apart
-
-pub fn totals_of(bench: Bench) -> Totals
-    ensures { result ≡ bench.totals }
-{
-    bench.totals
-}
-
-pub fn tables_of(bench: Bench) -> [u32; Tables::SIZE]
-    ensures { result ≡ bench.tables }
-{
-    let tables = bench.tables;
-    tables
-}
-
-pub fn messages_of(bench: Bench) -> [u32; Messages::SIZE]
-    ensures { result ≡ bench.messages }
-{
-    let messages = bench.messages;
-    messages
-}
-
-// The counts of hops made and taken, as the list that a call is lent.
-pub fn pairs_of(bench: Bench) -> [[[u16; Limits::UNITS]; Limits::UNITS]; 2]
-    ensures { result ≡ bench.pairs.grids }
-{
-    counts::grids_of(bench.pairs)
-}
-
-pub fn gauges_of(bench: Bench) -> [u16; Gauges::SIZE]
-    ensures { result ≡ bench.gauges }
-{
-    let gauges = bench.gauges;
-    gauges
-}
-
-// ---- and put together
-
-// The bench with other totals, messages, counts and gauges.
-fn with_lists(
-    bench: Bench,
-    totals: Totals,
-    messages: [u32; Messages::SIZE],
-    grids: [[[u16; Limits::UNITS]; Limits::UNITS]; 2],
-    gauges: [u16; Gauges::SIZE],
-) -> Bench
-    ensures { result ≡ with_lists bench totals messages grids gauges }
-{
-    let kept = bench.tables;
-    let pairs = counts::of_grids(grids);
-    Bench {
-        totals,
-        tables: kept,
-        messages,
-        pairs,
-        gauges,
-    }
-}
-
-// What `send` answers, by what `bench_engine::send` answered and left.
-fn after_send(
-    bench: Bench,
-    told: bench_engine::Sent,
-    messages: [u32; Messages::SIZE],
-    grids: [[[u16; Limits::UNITS]; Limits::UNITS]; 2],
-) -> Sent
-    ensures { result ≡ sent_with bench told messages grids }
-{
-    let totals = told.totals;
-    let reply = told.reply;
-    let kept = bench.gauges;
-    let next = with_lists(bench, totals, messages, grids, kept);
-    Sent { bench: next, reply }
-}
-
-// What `arrive` answers, by what `bench_engine::arrive` answered and left.
-fn after_arrive(
-    bench: Bench,
-    told: bench_engine::Arrived,
-    messages: [u32; Messages::SIZE],
-    grids: [[[u16; Limits::UNITS]; Limits::UNITS]; 2],
-    gauges: [u16; Gauges::SIZE],
-) -> Arrived
-    ensures { result ≡ arrived_with bench told messages grids gauges }
-{
-    let totals = told.totals;
-    let reply = told.reply;
-    let next = with_lists(bench, totals, messages, grids, gauges);
-    Arrived { bench: next, reply }
-}
-
-// ---- a fresh bench
-
-// a where the test says so, else b.
-fn choose(test: bool, a: usize, b: usize) -> usize
-    ensures { result ≡ cond test a b }
-{
-    if test {
-        return a;
-    }
-    b
-}
-
-// Whether a lent list is too short.
-#[tactic(auto, unfolding(bench_promises::specs::Machine::is_short))]
-fn is_short(hops: usize, book: usize) -> bool
-    ensures { result ≡ is_short hops book }
-{
-    if hops < Limits::HOPS {
-        return true;
-    }
-    book < Limits::BOOK
-}
-
 // A bench without messages and hops.
+#[tactic(auto, unfolding(crate::specs::Lists::empty_bench, bench_store::specs::Values::no_counts))]
 fn empty(
     units: usize,
     groups: [u32; Limits::GROUPS],
@@ -171,44 +60,29 @@ fn empty(
 ) -> Bench
     ensures { result ≡ empty_bench units count groups parents }
 {
-    let tables = forest_tables::of(units, groups, count, parents);
-    let pairs = counts::of_grids([[[0u16; Limits::UNITS]; Limits::UNITS]; 2]);
-    let totals = Totals {
-        made: 0,
-        taken: 0,
-        sent: 0,
-        routed: 0,
-    };
     Bench {
-        totals,
-        tables,
-        messages: [0u32; Messages::SIZE],
-        pairs,
-        gauges: [0u16; Gauges::SIZE],
+        totals: Totals {
+            made: 0,
+            taken: 0,
+            sent: 0,
+            routed: 0,
+        },
+        tables: forest_tables::of(units, groups, count, parents),
+        messages: [0; Messages::SIZE],
+        pairs: PairCounts::new([[[0; Limits::UNITS]; Limits::UNITS]; 2]),
+        gauges: [0; Gauges::SIZE],
     }
 }
 
-// What `fresh` answers.
-#[tactic(auto, unfolding(crate::specs::Lists::fresh_with))]
-fn begun(
-    short: bool,
-    units: usize,
-    groups: [u32; Limits::GROUPS],
-    count: usize,
-    parents: [u8; Limits::UNITS],
-) -> Fresh
-    ensures { result ≡ fresh_with short units count groups parents }
+// Whether lent lists of these lengths are long enough.
+#[tactic(auto, unfolding(crate::specs::Lists::fresh_reply, bench_promises::specs::Machine::is_short))]
+fn check(hops: usize, book: usize) -> FreshReply
+    ensures { result ≡ fresh_reply hops book }
 {
-    let bench = empty(units, groups, count, parents);
-    if short {
-        return Fresh {
-            bench,
-            reply: FreshReply::ListTooShort,
-        };
-    }
-    Fresh {
-        bench,
-        reply: FreshReply::Made,
+    if hops < Limits::HOPS || book < Limits::BOOK {
+        Err(ListTooShort)
+    } else {
+        Ok(())
     }
 }
 
@@ -225,85 +99,87 @@ impl Bench {
         ensures { FreshPromise units count groups parents hops.old book.old
             result.reply (lists_of result.bench) hops.new book.new }
     {
-        let hops_lent = hops.len();
-        let book_lent = book.len();
-        let short = is_short(hops_lent, book_lent);
-        let hops_used = choose(short, 0, Limits::HOPS);
-        let book_used = choose(short, 0, Limits::BOOK);
-        hops::clear(hops, hops_used);
-        bench_store::book::clear(book, book_used);
-        begun(short, units, groups, count, parents)
+        let reply = check(hops.len(), book.len());
+        if reply.is_ok() {
+            hops::clear(hops, Limits::HOPS);
+            bench_store::book::clear(book, Limits::BOOK);
+        }
+        Fresh {
+            bench: empty(units, groups, count, parents),
+            reply,
+        }
     }
 
     // Sends a message from a source to a group.
+    #[tactic(auto, unfolding(crate::specs::Lists::lists_of))]
     pub fn send(self, source: u16, group: u16, word: u32, hops: &mut [model::Hop]) -> Sent
         ensures { SendPromise (lists_of self) source group word hops.old result.reply (lists_of result.bench)
             hops.new }
     {
-        let totals = totals_of(self);
-        let tables = tables_of(self);
-        let mut messages = messages_of(self);
-        let mut pairs = pairs_of(self);
+        let mut next = self;
         let told = bench_engine::send(
-            totals,
+            next.totals,
             source,
             group,
             word,
-            &tables,
-            &mut messages,
-            &mut pairs,
+            &next.tables,
+            &mut next.messages,
+            &mut next.pairs.grids,
             hops,
         );
-        after_send(self, told, messages, pairs)
+        next.totals = told.totals;
+        Sent {
+            bench: next,
+            reply: told.reply,
+        }
     }
 
     // A copy of a hop reaches its receiver.
+    #[tactic(auto, unfolding(crate::specs::Lists::lists_of))]
     pub fn arrive(self, hop: u16, hops: &mut [model::Hop], book: &mut [u16]) -> Arrived
         ensures { ArrivePromise (lists_of self) hop hops.old book.old
             result.reply (lists_of result.bench) hops.new book.new }
     {
-        let totals = totals_of(self);
-        let tables = tables_of(self);
-        let mut messages = messages_of(self);
-        let mut pairs = pairs_of(self);
-        let mut gauges = gauges_of(self);
+        let mut left = self;
         let told = bench_engine::arrive(
-            totals,
+            left.totals,
             hop,
-            &tables,
-            &mut messages,
-            &mut pairs,
-            &mut gauges,
+            &left.tables,
+            &mut left.messages,
+            &mut left.pairs.grids,
+            &mut left.gauges,
             hops,
             book,
         );
-        after_arrive(self, told, messages, pairs, gauges)
+        left.totals = told.totals;
+        Arrived {
+            bench: left,
+            reply: told.reply,
+        }
     }
 
     // Is the bench at rest?
+    #[tactic(auto, unfolding(crate::specs::Lists::lists_of))]
     pub fn rest(self, hops: &[model::Hop]) -> RestReply
         ensures { RestPromise (lists_of self) hops.now result }
     {
-        let totals = totals_of(self);
-        bench_engine::rest(totals, hops)
+        bench_engine::rest(self.totals, hops)
     }
 
     // The log of a unit, as a part of the caller's book. Turned away, an empty part.
+    #[tactic(auto, unfolding(crate::specs::Lists::lists_of))]
     pub fn log<'a>(self, unit: u16, book: &'a [u16]) -> &'a [u16]
         ensures promise { LogPromise (lists_of self) unit book.now result.now }
         ensures place { LogPlace (lists_of self) unit book.entry result }
     {
-        let tables = tables_of(self);
-        let gauges = gauges_of(self);
-        bench_engine::log(unit, &tables, &gauges, book)
+        bench_engine::log(unit, &self.tables, &self.gauges, book)
     }
 
     // The refusal of `log`, or the log's length.
+    #[tactic(auto, unfolding(crate::specs::Lists::lists_of))]
     pub fn log_length(self, unit: u16, book: &[u16]) -> LogReply
         ensures { LengthPromise (lists_of self) unit book.now result }
     {
-        let tables = tables_of(self);
-        let gauges = gauges_of(self);
-        bench_engine::log_length(unit, &tables, &gauges, book)
+        bench_engine::log_length(unit, &self.tables, &self.gauges, book)
     }
 }

@@ -7,18 +7,20 @@ ghost use Rattle.bench_promises.specs.Promises.{RestPromise, LogPromise, LogPlac
 ghost use Rattle.bench_store.specs.Values.{column_at};
 
 use crate::Part;
-use bench_promises::{LogReply, RestReply, Totals};
+use bench_promises::{ListTooShort, LogRefusal, LogReply, RestReply, Totals};
+use bench_store::Limits;
 use bench_store::columns::Gauges;
-use bench_store::{Limits, columns};
 
 // What `rest` answers, lent so many hops.
+#[tactic(auto, unfolding(bench_promises::specs::Machine::rest_reply, model::specs::Rules::refuse))]
 fn rested(t: Totals, hops: usize) -> RestReply
     ensures { result ≡ rest_reply t hops }
 {
     if hops < Limits::HOPS {
-        return RestReply::ListTooShort;
+        Err(ListTooShort)
+    } else {
+        Ok(t.taken == t.made)
     }
-    RestReply::Rest(t.taken == t.made)
 }
 
 // Is the bench at rest?
@@ -26,34 +28,31 @@ pub fn rest(t: Totals, hops: &[model::Hop]) -> RestReply
     ensures { (ts ms : List ℕ) (ps : List (List (List ℕ))) (gs : List ℕ)
         → RestPromise (bench t ts ms ps gs) hops.now result }
 {
-    let lent = hops.len();
-    rested(t, lent)
+    rested(t, hops.len())
 }
 
 // The length of a unit's log.
 fn length_of(unit: u16, gauges: &[u16]) -> u16
     ensures { result ≡ column_at gauges.now 0 32 unit }
 {
-    columns::small_number(gauges, Gauges::LENGTHS, Limits::UNITS, unit as usize)
+    Gauges::LENGTHS.number(gauges, unit as usize)
 }
 
 // x, or 0 where log is turned away or the unit has no row.
+#[tactic(auto, unfolding(bench_promises::specs::Machine::unless_refused, model::specs::Rules::refuse))]
 fn unless_refused(unit: u16, tables: &[u32], book: usize, x: usize) -> usize
     ensures { result ≡ unless_refused tables.now unit book x }
 {
-    if book < Limits::BOOK {
-        return 0;
+    let at = unit as usize;
+    if book < Limits::BOOK || forest_tables::unit_count(tables) <= at || Limits::UNITS <= at {
+        0
+    } else {
+        x
     }
-    if forest_tables::unit_count(tables) <= unit as usize {
-        return 0;
-    }
-    if Limits::UNITS <= unit as usize {
-        return 0;
-    }
-    x
 }
 
 // Where the part starts that log hands back.
+#[tactic(auto, unfolding(bench_promises::specs::Machine::log_start))]
 fn start(unit: u16, tables: &[u32], book: usize) -> usize
     ensures { result ≡ log_start tables.now unit book }
 {
@@ -61,14 +60,13 @@ fn start(unit: u16, tables: &[u32], book: usize) -> usize
 }
 
 // How many numbers it has.
+#[tactic(auto, unfolding(bench_promises::specs::Machine::log_count, model::specs::Rules::refuse))]
 fn count(unit: u16, tables: &[u32], gauges: &[u16], book: usize) -> usize
     ensures { result ≡ log_count tables.now gauges.now unit book }
 {
     let length = length_of(unit, gauges) as usize;
-    if Limits::MESSAGES < length {
-        return unless_refused(unit, tables, book, 0);
-    }
-    unless_refused(unit, tables, book, length)
+    let kept = if Limits::MESSAGES < length { 0 } else { length };
+    unless_refused(unit, tables, book, kept)
 }
 
 // The log of a unit, as a part of the caller's book. Turned away, an empty part.
@@ -103,10 +101,10 @@ pub fn log_length(unit: u16, tables: &[u32], gauges: &[u16], book: &[u16]) -> Lo
         → LengthPromise (bench t tables.now ms ps gauges.now) unit book.now result }
 {
     if book.len() < Limits::BOOK {
-        return LogReply::ListTooShort;
+        return Err(LogRefusal::ListTooShort);
     }
     if forest_tables::unit_count(tables) <= unit as usize {
-        return LogReply::NoSuchUnit;
+        return Err(LogRefusal::NoSuchUnit);
     }
-    LogReply::Length(length_of(unit, gauges))
+    Ok(length_of(unit, gauges))
 }

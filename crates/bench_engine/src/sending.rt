@@ -1,86 +1,43 @@
 // One send: the message is recorded, and one hop made, from its source to the primary of its group.
 ghost use Rattle.std.specs.Prelude.{◌≡◌, List, ℕ};
-ghost use Rattle.bench_promises.specs.Machine.{send_refusal, sent_reply, sequence_of, first_hop, recorded_totals, recorded_messages};
+ghost use Rattle.bench_promises.specs.Machine.{send_refusal, sequence_of, first_hop, recorded_totals, recorded_messages};
 ghost use Rattle.bench_promises.specs.Machine.{recorded_pairs};
 ghost use Rattle.bench_promises.specs.State.{bench};
 ghost use Rattle.bench_promises.specs.Promises.{SendPromise};
-ghost use Rattle.bench_engine.specs.Steps.{is_refused, turned_away, sent_as};
+ghost use Rattle.bench_engine.specs.Steps.{send_number, sent_as};
 
 use crate::Sent;
-use bench_promises::{SendReply, Totals};
+use bench_promises::{SendRefusal, Totals};
 use bench_store::columns::Messages;
-use bench_store::counts::PairCounts;
-use bench_store::{Limits, columns, counts};
+use bench_store::counts::{Grid, PairCounts};
+use bench_store::{Limits, counts};
 
-// Why a send is turned away: document 01's number, or 0.
-fn refusal(t: Totals, source: u16, group: u16, hops: usize, tables: &[u32]) -> u8
-    ensures { result ≡ send_refusal t tables.now source group hops }
+// Why a send is turned away, if it is.
+#[tactic(auto, unfolding(bench_promises::specs::Machine::send_refusal, model::specs::Rules::refuse))]
+fn check(t: Totals, source: u16, group: u16, hops: usize, tables: &[u32]) -> Result<(), SendRefusal>
+    ensures { send_number result ≡ send_refusal t tables.now source group hops }
 {
     if hops < Limits::HOPS {
-        return 1;
+        return Err(SendRefusal::ListTooShort);
     }
     if forest_tables::unit_count(tables) <= source as usize {
-        return 12;
+        return Err(SendRefusal::NoSuchUnit);
     }
     if forest_tables::group_count(tables) <= group as usize {
-        return 13;
+        return Err(SendRefusal::NoSuchGroup);
     }
     if Limits::MESSAGES <= t.sent as usize {
-        return 14;
+        return Err(SendRefusal::TooManyMessages);
     }
     let size = forest_tables::route_size(tables, group as usize);
     if Limits::HOPS < bench_store::plus(t.routed, size) as usize {
-        return 15;
+        return Err(SendRefusal::RoutesTooLong);
     }
-    0
-}
-
-fn is_refused(refusal: u8) -> bool
-    ensures { result ≡ is_refused refusal }
-{
-    refusal != 0
-}
-
-// What a send answers.
-fn reply(t: Totals, refusal: u8) -> SendReply
-    ensures { result ≡ sent_reply t refusal }
-{
-    if refusal == 1 {
-        return SendReply::ListTooShort;
-    }
-    if refusal == 12 {
-        return SendReply::NoSuchUnit;
-    }
-    if refusal == 13 {
-        return SendReply::NoSuchGroup;
-    }
-    if refusal == 14 {
-        return SendReply::TooManyMessages;
-    }
-    if refusal == 15 {
-        return SendReply::RoutesTooLong;
-    }
-    SendReply::Sent(bench_store::plus(t.sent, 1))
-}
-
-fn turned_away(t: Totals, refusal: u8) -> Sent
-    ensures { result ≡ turned_away t refusal }
-{
-    let answer = reply(t, refusal);
-    Sent {
-        totals: t,
-        reply: answer,
-    }
-}
-
-// The place of the next hop.
-fn place(t: Totals) -> usize
-    ensures { result ≡ t.made }
-{
-    t.made as usize
+    Ok(())
 }
 
 // The hop to the group's primary, of that number among the hops of its pair.
+#[tactic(auto, unfolding(bench_promises::specs::Machine::first_hop))]
 fn first_hop(t: Totals, source: u16, group: u16, sequence: u16, tables: &[u32]) -> model::Hop
     ensures { result ≡ first_hop t tables.now source group sequence }
 {
@@ -95,34 +52,19 @@ fn first_hop(t: Totals, source: u16, group: u16, sequence: u16, tables: &[u32]) 
 }
 
 // The message is recorded.
+#[tactic(auto, unfolding(bench_promises::specs::Machine::recorded_messages))]
 fn record_message(t: Totals, source: u16, group: u16, word: u32, messages: &mut [u32])
     ensures { messages.new ≡ recorded_messages t source group word messages.old }
 {
     let at = t.sent as usize;
-    columns::set_number(
-        messages,
-        Messages::SOURCES,
-        Limits::MESSAGES,
-        at,
-        source as u32,
-    );
-    columns::set_number(
-        messages,
-        Messages::GROUPS,
-        Limits::MESSAGES,
-        at,
-        group as u32,
-    );
-    columns::set_number(messages, Messages::WORDS, Limits::MESSAGES, at, word);
+    Messages::SOURCES.set_number(messages, at, source as u32);
+    Messages::GROUPS.set_number(messages, at, group as u32);
+    Messages::WORDS.set_number(messages, at, word);
 }
 
 // The hop to the group's primary is counted: its number among the hops of its pair.
-fn count_hop(
-    source: u16,
-    group: u16,
-    tables: &[u32],
-    pairs: &mut [[[u16; Limits::UNITS]; Limits::UNITS]],
-) -> u16
+#[tactic(auto, unfolding(bench_promises::specs::Machine::sequence_of, bench_promises::specs::Machine::recorded_pairs))]
+fn count_hop(source: u16, group: u16, tables: &[u32], pairs: &mut [Grid]) -> u16
     ensures { (result ≡ sequence_of tables.now source group pairs.old)
         × (pairs.new ≡ recorded_pairs tables.now source group pairs.old) }
 {
@@ -131,6 +73,7 @@ fn count_hop(
 }
 
 // The totals with the message and its hop.
+#[tactic(auto, unfolding(bench_promises::specs::Machine::recorded_totals))]
 fn recorded(t: Totals, group: u16, tables: &[u32]) -> Totals
     ensures { result ≡ recorded_totals t tables.now group }
 {
@@ -144,6 +87,7 @@ fn recorded(t: Totals, group: u16, tables: &[u32]) -> Totals
 }
 
 // What a send that is not turned away answers, and the messages it leaves.
+#[tactic(auto, unfolding(crate::specs::Steps::sent_as, bench_promises::specs::Machine::recorded_totals))]
 fn finished(
     t: Totals,
     source: u16,
@@ -156,11 +100,10 @@ fn finished(
         × (messages.new ≡ recorded_messages t source group word messages.old) }
 {
     record_message(t, source, group, word, messages);
-    let next = recorded(t, group, tables);
-    let answer = reply(t, 0);
+    let totals = recorded(t, group, tables);
     Sent {
-        totals: next,
-        reply: answer,
+        totals,
+        reply: Ok(totals.sent),
     }
 }
 
@@ -172,21 +115,21 @@ pub fn send(
     word: u32,
     tables: &[u32],
     messages: &mut [u32],
-    pairs: &mut [[[u16; Limits::UNITS]; Limits::UNITS]],
+    pairs: &mut [Grid],
     hops: &mut [model::Hop],
 ) -> Sent
     ensures { (gs : List ℕ) → SendPromise (bench t tables.now messages.old pairs.old gs)
         source group word hops.old result.reply
         (bench result.totals tables.now messages.new pairs.new gs) hops.new }
 {
-    let lent = hops.len();
-    let number = refusal(t, source, group, lent, tables);
-    if is_refused(number) {
-        return turned_away(t, number);
+    if let Err(refusal) = check(t, source, group, hops.len(), tables) {
+        return Sent {
+            totals: t,
+            reply: Err(refusal),
+        };
     }
     let sequence = count_hop(source, group, tables, pairs);
     let hop = first_hop(t, source, group, sequence, tables);
-    let at = place(t);
-    hops::append(hops, at, hop);
+    hops::append(hops, t.made as usize, hop);
     finished(t, source, group, word, tables, messages)
 }

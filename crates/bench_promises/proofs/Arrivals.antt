@@ -10,6 +10,7 @@ use native.Mathlib.Omega.{arith}
 use borrow.Author.Tests.{le-ltb, lt-leb, le-leb, leb-true, leb-false, ne_eqb, eqb-true, eqb-false}
 use lib.Dec.{leb, eqb}
 use lib.ListN.{length, get_or, set}
+use Rattle.std.specs.Prelude.{Ok}
 use Rattle.sets.proofs.Bools.{either, clash}
 use Rattle.layout.specs.Tables.{tabulate}
 use Rattle.model.specs.declared.Hop.{Hop}
@@ -26,11 +27,11 @@ use Rattle.model.proofs.Rest.{TakenFirst}
 use Rattle.model.proofs.Networks.{Valid, state-lawful}
 use Rattle.model.proofs.Theorems.{valid-limits, valid-numbered, valid-first}
 use Rattle.model.proofs.Progress.{taken-within, count-pair-state, hold-taken, hold-taken-all, hold-next, hold-idle}
-use Rattle.bench_store.specs.Values.{plus, column_at, with_column, count_in, added_in}
+use Rattle.bench_store.specs.Values.{plus, item_at, column_at, with_column, count_in, added_in}
 use Rattle.bench_promises.specs.declared.arrival.Arrival.{Arrival}
 use Rattle.bench_promises.specs.Machine.{arrive_refusal, is_closed, closed_reply, is_next, begun, Settling, settled, settled_from}
 use Rattle.bench_promises.specs.Machine.{finished_totals, finished_pairs, finished_gauges, finished_reply, arrive_end}
-use Rattle.bench_promises.specs.declared.replies.ArriveReply.TheVariants.{Taken as TakenNumber, Held as HeldHop}
+use Rattle.bench_promises.specs.declared.replies.Receipt.TheVariants.{Taken as TakenNumber, Held as HeldHop}
 use Rattle.bench_promises.specs.Replies.{arrive_answer}
 use Rattle.bench_promises.specs.State.{Bench, hop_records, log_book, pair_table, message_list, totals_of, plan_tables, bench_of}
 use Rattle.bench_promises.proofs.Padding.{plus-small, tabulate-at, tabulate-set, count_at, pair_same, pair-added}
@@ -80,7 +81,7 @@ module _ (L : Ledger) (ms : List Message) (hs : List Hop) (ls : List (List ℕ))
 
   -- what an arrival of an untaken, unheld hop answers and leaves is the rule's outcome o: one that is only held, and one that is the next
   pub record Holds (o : Outcome) : Type 0 where
-    pub answer : arrive_answer HeldHop ≡ answer_of o
+    pub answer : arrive_answer (Ok HeldHop) ≡ answer_of o
     pub bench : b ≡ bench_of (left_of o)
     pub hops : set_state j 1 lent ≡ hop_records (left_of o) ++ rest
     pub numbers : book ≡ log_book (left_of o) ++ rest'
@@ -186,7 +187,7 @@ module _ (L : Ledger) (ms : List Message) (hs : List Hop) (ls : List (List ℕ))
         hold-takes x y = hold-taken x y j hs made out
 
         length_at : column_at b.gauges 0 32 r ≡ length (log_of r W₁)
-        unfolding column_at bench_of tabulate log_of
+        unfolding item_at bench_of tabulate log_of
         length_at = tabulate-at 32 (λ u. length (get_or ls u [])) r 0 to-r
 
         abbrev start : Hop → Arrival
@@ -419,9 +420,9 @@ module _ (L : Ledger) (ms : List Message) (hs : List Hop) (ls : List (List ℕ))
           unfolding finished_reply settling_of arrival_of refuse arrive_answer tally
           answers = said n
             where
-              said : (k : ℕ) → arrive_answer (refuse (eqb k 0) HeldHop (TakenNumber k)) ≡ tally k
+              said : (k : ℕ) → arrive_answer (refuse (eqb k 0) (Ok HeldHop) (Ok (TakenNumber k))) ≡ tally k
               said zero = refl
-              said (suc k) = ap (λ (t : Bool). arrive_answer (refuse t HeldHop (TakenNumber (suc k))))
+              said (suc k) = ap (λ (t : Bool). arrive_answer (refuse t (Ok HeldHop) (Ok (TakenNumber (suc k)))))
                   (ne_eqb (suc k) 0 (λ e. absurd (omega arith)))
 
           arrives : Arrives (settle (length hs) s r 0 W₁)

@@ -18,7 +18,7 @@ use Rattle.layout.proofs.Tables.{length-tabulate, get_d_tabulate, tabulated, sam
 use Rattle.model.specs.declared.Message.{Message}
 use Rattle.model.specs.Network.{no_message, message_at}
 use Rattle.model.proofs.Hops.{length_snoc}
-use Rattle.bench_store.specs.Values.{capped, plus, byte, filled, column_at, with_column, added, is_pair, count_in, added_in}
+use Rattle.bench_store.specs.Values.{capped, plus, byte, filled, item_at, column_at, with_column, added, is_pair, count_in, added_in}
 use Rattle.bench_promises.specs.State.{padded, pair_table, message_column, message_list}
 -- laws of other libraries under this crate's names
 pub use lib.ListN.{get_or-append as append_at}
@@ -233,5 +233,5 @@ messages_snoc ms x b =
 
 -- the group of message m
 pub group_at : (ms : List Message) (m : ℕ) → m ≤ 200 → column_at (message_list ms) 200 200 (m - 1) ≡ (message_at ms m).group
-unfolding column_at message_list message_column tabulate message_at
+unfolding item_at message_list message_column tabulate message_at
 group_at ms m few = get_d_tabulate 200 (λ i. (get_or ms i no_message).group) (m - 1) 0 (omega arith)

@@ -10,6 +10,7 @@ use borrow.Author.Tests.{lt-ltb, le-ltb, lt-leb, le-leb, leb-false, eq-eqb, ne_e
 use lib.Dec.{ltb, leb, eqb}
 use lib.ListN.{length, set, take, drop, take-append-drop}
 use denote.Ref.{Bor}
+use Rattle.std.specs.Prelude.{Result, Ok, Err}
 use Rattle.sets.proofs.Bools.{either, clash, or_left, or_right}
 use Rattle.layout.specs.Tables.{tabulate}
 use Rattle.model.specs.declared.Hop.{Hop}
@@ -24,12 +25,12 @@ use Rattle.model.proofs.Networks.{Valid}
 use Rattle.model.proofs.Theorems.{valid-limits, valid-forest, run-valid, run-idle}
 use Rattle.forest_tables.specs.Computed.{unit_count}
 use Rattle.forest_tables.proofs.Columns.{units_in}
-use Rattle.bench_store.specs.Values.{filled, column_at}
-use Rattle.bench_promises.specs.declared.replies.FreshReply.TheVariants.{Made, ListTooShort as FreshTooShort}
-use Rattle.bench_promises.specs.declared.replies.SendReply.{SendReply}
+use Rattle.bench_store.specs.Values.{filled, item_at, column_at}
+use Rattle.bench_promises.specs.declared.replies.SendRefusal.{SendRefusal}
 use Rattle.bench_promises.specs.declared.arrival.Arrival.{Arrival}
-use Rattle.bench_promises.specs.declared.replies.ArriveReply.{ArriveReply}
-use Rattle.bench_promises.specs.declared.replies.ArriveReply.TheVariants.{Taken, Held}
+use Rattle.bench_promises.specs.declared.replies.ArriveRefusal.{ArriveRefusal}
+use Rattle.bench_promises.specs.declared.replies.Receipt.{Receipt}
+use Rattle.bench_promises.specs.declared.replies.Receipt.TheVariants.{Taken, Held}
 use Rattle.bench_promises.specs.Machine.{is_short, hops_of_fresh, book_of_fresh, fresh_bench, send_refusal, sent_reply, sequence_of}
 use Rattle.bench_promises.specs.Machine.{first_hop}
 use Rattle.bench_promises.specs.Machine.{arrive_refusal, is_closed, closed_reply, finished_reply, rest_reply, unless_refused, log_start}
@@ -49,20 +50,20 @@ use Rattle.bench_promises.proofs.Arrivals.{arrived_bench, next_at, end_at}
 -- ---- fresh
 
 pub fresh-promise : (n c : ℕ) (gs ps : List ℕ) (hops : List Hop) (book : List ℕ)
-    → FreshPromise n c gs ps hops book (cond (is_short (length hops) (length book)) FreshTooShort Made) (fresh_bench n c gs ps)
+    → FreshPromise n c gs ps hops book (cond (is_short (length hops) (length book)) (Err (record {})) (Ok tt)) (fresh_bench n c gs ps)
     (hops_of_fresh hops book) (book_of_fresh hops book)
 unfolding hops_of_fresh book_of_fresh fresh_answer is_short filled
 fresh-promise n c gs ps hops book = let P : Plan = record { units = n; count = c; groups = gs; parents = ps } in record {
   short = λ s.
       let t = is-short s in (
-        ap (λ (x : Bool). fresh_answer (cond x FreshTooShort Made)) t,
+        ap (λ (x : Bool). fresh_answer (cond x (Err (record {})) (Ok tt))) t,
         ap (λ (x : Bool). filled (cond x 0 2000) no_hop hops) t,
         ap (λ (x : Bool). filled (cond x 0 6400) 0 book) t,
       );
   whole = λ w w'.
       let t : is_short (length hops) (length book) ≡ false = ap (λ (x : Bool). x || ltb (length book) 6400) (le-ltb _ _ w) ∙ le-ltb _ _
       w' in (
-        ap (λ (x : Bool). fresh_answer (cond x FreshTooShort Made)) t,
+        ap (λ (x : Bool). fresh_answer (cond x (Err (record {})) (Ok tt))) t,
         ap (λ (x : Bool). filled (cond x 0 2000) no_hop hops) t ∙ filled-whole 2000 no_hop hops w ∙ ap
             (λ (l : List Hop). l ++ drop 2000 hops) (sym (fresh-hops P)),
         ap (λ (x : Bool). filled (cond x 0 6400) 0 book) t ∙ filled-whole 6400 0 book w'
@@ -145,7 +146,7 @@ send-taken b s g w hops some = record {
 }
 
 -- there is an answer for every input
-pub send-some : (b : Bench) (s g w : ℕ) (hops : List Hop) → (r : SendReply) × (left : Bench)
+pub send-some : (b : Bench) (s g w : ℕ) (hops : List Hop) → (r : Result ℕ SendRefusal) × (left : Bench)
     × (hops-left : List Hop) × SendPromise b s g w
     hops r left hops-left
 send-some b s g w hops = ⊎_elim (λ some. (_, _, _, send-taken b s g w hops some)) (λ none. (_, _, _, send-refused b s g w hops none))
@@ -178,7 +179,7 @@ module _ (j : ℕ) (hops : List Hop) (book : List ℕ) where
   Open b l k = is_closed (arrive_number b j l k) (hop_at l j) ≡ false
 
   abbrev Holds : Bench → List Hop → List ℕ → Network → Type 0
-  Holds b l k W = Open b l k → next_at b j l ≡ false → ArrivedAs (arrive j W) hops book Held b (set_state j 1 l) k
+  Holds b l k W = Open b l k → next_at b j l ≡ false → ArrivedAs (arrive j W) hops book (Ok Held) b (set_state j 1 l) k
 
   abbrev Arrives : Bench → List Hop → List ℕ → Network → Type 0
   Arrives b l k W = Open b l k → next_at b j l ≡ true
@@ -229,7 +230,7 @@ never_refused : (a : Arrival) (number : ℕ) → arrive_answer (finished_reply a
 unfolding finished_reply arrive_answer refuse
 never_refused a number e = by (eqb a.taken 0) e
   where
-    by : (t : Bool) → arrive_answer (refuse t Held (Taken a.taken)) ≡ Refused number → ⊥
+    by : (t : Bool) → arrive_answer (refuse t (Ok Held) (Ok (Taken a.taken))) ≡ Refused number → ⊥
     by true e = let z : ◌≡◌ {A = ℕ} 0 1 = cc in omega arith
     by false e = let z : ◌≡◌ {A = ℕ} 0 1 = cc in omega arith
 
@@ -240,7 +241,7 @@ module _ (b : Bench) (j : ℕ) (hops : List Hop) (book : List ℕ) (out : is_clo
   unfolding is_closed
   long l = clash (ap (λ (k : ℕ). is_closed k (hop_at hops j)) (short-arrive b.totals.made j (length hops) (length book) l)) out
 
-  pub arrive-held : next_at b j hops ≡ false → ArrivePromise b j hops book Held b (set_state j 1 hops) book
+  pub arrive-held : next_at b j hops ≡ false → ArrivePromise b j hops book (Ok Held) b (set_state j 1 hops) book
   unfolding after arrive_answer
   arrive-held t = record {
     refused = λ number e. let z : ◌≡◌ {A = ℕ} 0 1 = cc in absurd (omega arith);
@@ -260,7 +261,7 @@ module _ (b : Bench) (j : ℕ) (hops : List Hop) (book : List ℕ) (out : is_clo
   }
 
 pub arrive-some : (b : Bench) (j : ℕ) (hops : List Hop) (book : List ℕ)
-    → (r : ArriveReply) × (left : Bench) × (hops-left : List Hop) × (book-left : List ℕ)
+    → (r : Result Receipt ArriveRefusal) × (left : Bench) × (hops-left : List Hop) × (book-left : List ℕ)
     × ArrivePromise b j hops book r left hops-left
     book-left
 arrive-some b j hops book = ⊎_elim (λ shut. (_, _, _, _, arrive-closed b j hops book shut))
@@ -305,7 +306,7 @@ unfolding bench_of
 units-at W = let P = plan_in_use W in units_in P.units P.count P.groups P.parents
 
 length_at : (W : Network) (u : ℕ) → u < 32 → column_at (bench_of W).gauges 0 32 u ≡ length (log_of u W)
-unfolding column_at bench_of tabulate
+unfolding item_at bench_of tabulate
 length_at W u b = tabulate-at 32 (λ v. length (log_of v W)) u 0 b
 
 -- the part of a bench

@@ -12,6 +12,7 @@ use borrow.Author.Tests.{lt-ltb, le-ltb}
 use lib.ListN.{length, take, drop, length-take, take-append-drop}
 use lib.Seq.{take_at, drop_at, drop-drop}
 use lib.Dec.{ltb}
+use Rattle.std.specs.Prelude.{Result}
 use Rattle.sets.proofs.Bools.{or_left, or_right}
 use Rattle.model.specs.declared.Hop.{Hop}
 use Rattle.model.specs.Network.{Plan, Network, network, fresh_on, no_hop, hops_of, log_of}
@@ -22,9 +23,10 @@ use Rattle.model.specs.Claims.{Limits}
 use Rattle.model.proofs.Replies.{refuse-either}
 use Rattle.model.proofs.Theorems.{limits}
 use Rattle.model.proofs.Progress.{network_snoc, history_snoc}
-use Rattle.bench_promises.specs.declared.replies.FreshReply.{FreshReply}
-use Rattle.bench_promises.specs.declared.replies.SendReply.{SendReply}
-use Rattle.bench_promises.specs.declared.replies.ArriveReply.{ArriveReply}
+use Rattle.bench_promises.specs.declared.replies.ListTooShort.{ListTooShort}
+use Rattle.bench_promises.specs.declared.replies.SendRefusal.{SendRefusal}
+use Rattle.bench_promises.specs.declared.replies.ArriveRefusal.{ArriveRefusal}
+use Rattle.bench_promises.specs.declared.replies.Receipt.{Receipt}
 use Rattle.bench_promises.specs.Replies.{fresh_answer, send_answer, arrive_answer}
 use Rattle.bench_promises.specs.State.{Bench, hop_records, log_book, bench_of}
 use Rattle.bench_promises.specs.Promises.{after, OfHops, OfBook, FreshPromise, SendPromise, ArrivePromise}
@@ -164,11 +166,11 @@ module _ (P : Plan) (planned : Planned P) where
     of_book k whole = record { whole = whole; numbers = first-lent 6400 book book-whole k whole ∙ R.numbers }
 
     -- one call more, and of each list that it was lent only the first are other ones
-    pub record SentOn (s g w : ℕ) (h : Loan Hop 2000) (r : SendReply) (b' : Bench) (left : List Hop) : Type 0 where
+    pub record SentOn (s g w : ℕ) (h : Loan Hop 2000) (r : Result ℕ SendRefusal) (b' : Bench) (left : List Hop) : Type 0 where
       pub reached : Reached P (past ++ answered (Send s g w (length (lent h hops))) (send_answer r) ∷ []) b' (kept h hops left) book
       pub stays : left ≡ lent h (kept h hops left)
 
-    pub reached-send : {b' : Bench} {left : List Hop} {r : SendReply} (s g w : ℕ) (h : Loan Hop 2000)
+    pub reached-send : {b' : Bench} {left : List Hop} {r : Result ℕ SendRefusal} (s g w : ℕ) (h : Loan Hop 2000)
         → SendPromise b s g w (lent h hops) r b' left → SentOn s g w h r b' left
     unfolding refused answer_of left_of
     reached-send {left = left} s g w h promise =
@@ -193,15 +195,15 @@ module _ (P : Plan) (planned : Planned P) where
           stays = H.stays ∙ ap (lent h) (sym H.first);
         })
 
-    pub record ArrivedOn (j : ℕ) (h : Loan Hop 2000) (k : Loan ℕ 6400) (r : ArriveReply) (b' : Bench)
+    pub record ArrivedOn (j : ℕ) (h : Loan Hop 2000) (k : Loan ℕ 6400) (r : Result Receipt ArriveRefusal) (b' : Bench)
         (hops-left : List Hop) (book-left : List ℕ) : Type 0 where
       pub reached : Reached P (past ++ answered (Arrive j (length (lent h hops)) (length (lent k book))) (arrive_answer r) ∷ [])
           b' (kept h hops hops-left) (kept k book book-left)
       pub hops-stay : hops-left ≡ lent h (kept h hops hops-left)
       pub book-stays : book-left ≡ lent k (kept k book book-left)
 
-    pub reached-arrive : {b' : Bench} {hops-left : List Hop} {book-left : List ℕ} {r : ArriveReply} (j : ℕ) (h : Loan Hop 2000)
-        (k : Loan ℕ 6400) → ArrivePromise b j (lent h hops) (lent k book) r b' hops-left book-left
+    pub reached-arrive : {b' : Bench} {hops-left : List Hop} {book-left : List ℕ} {r : Result Receipt ArriveRefusal}
+        (j : ℕ) (h : Loan Hop 2000) (k : Loan ℕ 6400) → ArrivePromise b j (lent h hops) (lent k book) r b' hops-left book-left
         → ArrivedOn j h k r b' hops-left book-left
     unfolding refused answer_of left_of
     reached-arrive {b'} {hops-left} {book-left} {r} j h k promise =
@@ -237,7 +239,7 @@ module _ (P : Plan) (planned : Planned P) where
   -- ---- each list of calls
 
   -- a fresh bench that is lent whole lists
-  pub fresh-state : (hops hops-left : List Hop) (book book-left : List ℕ) (r : FreshReply) (b : Bench)
+  pub fresh-state : (hops hops-left : List Hop) (book book-left : List ℕ) (r : Result Unit ListTooShort) (b : Bench)
       → 2000 ≤ length hops → 6400 ≤ length book
       → FreshPromise P.units P.count P.groups P.parents hops book r b hops-left book-left
       → Reached P [] b (take 2000 hops-left) (take 6400 book-left)
@@ -253,7 +255,7 @@ module _ (P : Plan) (planned : Planned P) where
       }
 
   -- one that was not refused was lent whole lists
-  reached-fresh : (hops hops-left : List Hop) (book book-left : List ℕ) (r : FreshReply) (b : Bench)
+  reached-fresh : (hops hops-left : List Hop) (book book-left : List ℕ) (r : Result Unit ListTooShort) (b : Bench)
       → FreshPromise P.units P.count P.groups P.parents hops book r b hops-left book-left
       → fresh_answer r ≡ [] → Reached P [] b (take 2000 hops-left) (take 6400 book-left)
   reached-fresh hops hops-left book book-left r b promise e =

@@ -11,12 +11,13 @@ use borrow.Author.Tests.{leb-true, lt-ltb, le-ltb}
 use lib.ListN.{length, get_or, take, replicate, length-append, length-replicate}
 use lib.Seq.{append_snoc, take-append_seam}
 use lib.Dec.{ltb, leb}
+use Rattle.std.specs.Prelude.{Result}
 use Rattle.sets.proofs.Bools.{clash}
 use Rattle.layout.specs.Tables.{tabulate}
-use Rattle.forest.specs.declared.Answer.{Answer as ForestAnswer}
+use Rattle.forest.specs.declared.Refusal.{Refusal}
 use Rattle.layout.specs.Build.{built as layout}
-use Rattle.forest.specs.Calls.{refusal, drawn, groups_refusal, drawing_refusal, or_roots, build_refusal, build_parents, check_refusal}
-use Rattle.forest.specs.Calls.{check_parents}
+use Rattle.forest.specs.Calls.{refusal, parents_of, drawn, groups_refusal, drawing_refusal, or_roots, build_refusal, build_parents}
+use Rattle.forest.specs.Calls.{check_refusal, check_parents}
 use Rattle.forest.proofs.Shared.{same-counted}
 use Rattle.forest_tables.specs.Computed.{columns_of, tables_of}
 use Rattle.model.specs.declared.Hop.{Hop}
@@ -29,8 +30,7 @@ use Rattle.model.specs.Claims.{Limits, call_of, Reading}
 use Rattle.model.proofs.Runs.{run-calls}
 use Rattle.model.proofs.Replies.{refuse-either, rest-answers}
 use Rattle.model.proofs.Theorems.{demand_3, reading, limits, valid-forest, run-valid}
-use Rattle.bench_promises.specs.declared.replies.FreshReply.{FreshReply}
-use Rattle.bench_promises.specs.declared.replies.RestReply.{RestReply}
+use Rattle.bench_promises.specs.declared.replies.ListTooShort.{ListTooShort}
 use Rattle.bench_promises.specs.Replies.{fresh_answer, rest_answer}
 use Rattle.bench_promises.specs.State.{Bench, padded, hop_records, pair_table, message_list, totals_of, bench_of}
 use Rattle.bench_promises.specs.Promises.{after, handed_back, OfHops, OfBook, fresh_network, FreshPromise, RestPromise, LogPromise}
@@ -140,7 +140,7 @@ module _ (P : Plan) (planned : Planned P) {past : List Answered} {b : Bench} {ho
       reached-log P planned reached u more part promise ∙ ap (λ (x : List Call). log_of u (network_of (run P x))) same-calls
       ∙ sym (handed-log u 6400 (network_of (run P cs)) (limits P planned cs) (omega arith))
 
-  pub list_rest : (more : List Hop) (r : RestReply) → RestPromise b (hops ++ more) r → rest_answer r
+  pub list_rest : (more : List Hop) (r : Result Bool ListTooShort) → RestPromise b (hops ++ more) r → rest_answer r
       ≡ rest 2000 (network_of (run P cs))
   unfolding after
   list_rest more r promise =
@@ -190,7 +190,7 @@ module _ (P : Plan) (planned : Planned P) where
   pub chains_exist : ChainsExist P
   chains_exist =
       let begins : (hops : List Hop) (book : List ℕ) → 2000 ≤ length hops → 6400 ≤ length book
-      → (r : FreshReply) × (left : Bench) × (hops-left : List Hop) × (book-left : List ℕ)
+      → (r : Result Unit ListTooShort) × (left : Bench) × (hops-left : List Hop) × (book-left : List ℕ)
       × FreshPromise P.units P.count P.groups P.parents hops book r left hops-left book-left × (fresh_answer r ≡ [])
       = λ hops book whole whole'. let x = fresh-promise P.units P.count P.groups P.parents hops book in
       (_, _, _, _, x, (x.whole whole whole').0) in record {
@@ -208,16 +208,16 @@ module _ (P : Plan) (planned : Planned P) where
 -- ---- the forest calls
 
 -- what an unrefused `build` or `check` answers is a plan for which all this holds
-pub built-planned : (units count : ℕ) (groups : List ℕ) (r : ForestAnswer) → refusal r.verdict ≡ build_refusal units count groups
-    → r.parents ≡ build_parents units count groups → refusal r.verdict ≡ []
-    → Planned (record { units = units; count = count; groups = groups; parents = r.parents })
+pub built-planned : (units count : ℕ) (groups : List ℕ) (r : Result (List ℕ) Refusal)
+    → refusal r ≡ build_refusal units count groups
+    → parents_of r ≡ build_parents units count groups → refusal r ≡ []
+    → Planned (record { units = units; count = count; groups = groups; parents = parents_of r })
 built-planned units count groups r e q accepted = built (sym e ∙ accepted) q
 
-pub checked-planned : (units count : ℕ) (groups drawing : List ℕ) (r : ForestAnswer)
-    → refusal r.verdict ≡ check_refusal units count
-    groups drawing
-    → r.parents ≡ check_parents units count groups drawing → refusal r.verdict ≡ []
-    → Planned (record { units = units; count = count; groups = groups; parents = r.parents })
+pub checked-planned : (units count : ℕ) (groups drawing : List ℕ) (r : Result (List ℕ) Refusal)
+    → refusal r ≡ check_refusal units count groups drawing
+    → parents_of r ≡ check_parents units count groups drawing → refusal r ≡ []
+    → Planned (record { units = units; count = count; groups = groups; parents = parents_of r })
 checked-planned units count groups drawing r e q accepted = checked drawing (sym e ∙ accepted) q
 
 -- a fresh bench depends on the groups that count alone

@@ -1,16 +1,16 @@
 -- Lists of calls as the contracts tell them, and demand 3 of them. Definitions only; proofs/Theorems.antt proves it.
 use Rattle.std.specs.Prelude.{◌≡◌, ℕ, ◌+◌, ◌≤◌, ◌<◌, cond, List, [], ◌∷◌, ◌++◌, map, length, take, drop}
-use Rattle.std.specs.Prelude.{ltb}
+use Rattle.std.specs.Prelude.{ltb, Bool, Result}
 use Rattle.model.specs.declared.Hop.{Hop}
 use Rattle.model.specs.Network.{Plan}
 use Rattle.model.specs.Rules.{all_taken}
 use Rattle.model.specs.Calls.{Call, Send, Arrive, Answered, answered, Rest}
 use Rattle.model.specs.Demand3.{Demand3}
 use Rattle.model.specs.Claims.{call_of}
-use Rattle.bench_promises.specs.declared.replies.FreshReply.{FreshReply}
-use Rattle.bench_promises.specs.declared.replies.SendReply.{SendReply}
-use Rattle.bench_promises.specs.declared.replies.ArriveReply.{ArriveReply}
-use Rattle.bench_promises.specs.declared.replies.RestReply.{RestReply}
+use Rattle.bench_promises.specs.declared.replies.ListTooShort.{ListTooShort}
+use Rattle.bench_promises.specs.declared.replies.SendRefusal.{SendRefusal}
+use Rattle.bench_promises.specs.declared.replies.ArriveRefusal.{ArriveRefusal}
+use Rattle.bench_promises.specs.declared.replies.Receipt.{Receipt}
 use Rattle.bench_promises.specs.State.{Bench}
 use Rattle.bench_promises.specs.Replies.{fresh_answer, send_answer, arrive_answer, rest_answer}
 use Rattle.bench_promises.specs.Promises.{FreshPromise, SendPromise, ArrivePromise, RestPromise, LogPromise}
@@ -41,15 +41,16 @@ kept (other list few) x left = x
 -- of the book. Each call gets the bench that the call before answered, and the hops and the book that it left, in a list as long as one
 -- likes; or too short a list, a part of these or another: then it answers 1 and stands in the list too.
 pub data Called (P : Plan) : List Answered → Bench → List Hop → List ℕ → Type 0 where
-  begun : {hops hops-left : List Hop} {book book-left : List ℕ} {r : FreshReply} {left : Bench}
+  begun : {hops hops-left : List Hop} {book book-left : List ℕ} {r : Result Unit ListTooShort} {left : Bench}
       → FreshPromise P.units P.count P.groups P.parents hops book r left hops-left book-left
       → fresh_answer r ≡ [] → Called P [] left (take 2000 hops-left) (take 6400 book-left)
-  sends : {past : List Answered} {b left : Bench} {hops hops-left : List Hop} {book : List ℕ} {r : SendReply}
+  sends : {past : List Answered} {b left : Bench} {hops hops-left : List Hop} {book : List ℕ} {r : Result ℕ SendRefusal}
       → Called P past b hops book → (source group word : ℕ) (h : Loan Hop 2000)
       → SendPromise b source group word (lent h hops) r left hops-left
       → Called P (past ++ answered (Send source group word (length (lent h hops))) (send_answer r) ∷ []) left
       (kept h hops hops-left) book
-  arrives : {past : List Answered} {b left : Bench} {hops hops-left : List Hop} {book book-left : List ℕ} {r : ArriveReply}
+  arrives : {past : List Answered} {b left : Bench} {hops hops-left : List Hop} {book book-left : List ℕ}
+      {r : Result Receipt ArriveRefusal}
       → Called P past b hops book → (hop : ℕ) (h : Loan Hop 2000) (k : Loan ℕ 6400)
       → ArrivePromise b hop (lent h hops) (lent k book) r left hops-left book-left
       → Called P (past ++ answered (Arrive hop (length (lent h hops)) (length (lent k book))) (arrive_answer r) ∷ [])
@@ -70,7 +71,7 @@ CallsDemand3 P past b hops book =
 
 -- the rest call answers yes exactly at rest
 unfoldable pub RestSays : Bench → List Hop → Type 0
-RestSays b hops = (more : List Hop) (r : RestReply) → RestPromise b (hops ++ more) r
+RestSays b hops = (more : List Hop) (r : Result Bool ListTooShort) → RestPromise b (hops ++ more) r
     → rest_answer r ≡ Rest (all_taken (take b.totals.made hops))
 
 -- ---- there are such lists
@@ -79,18 +80,19 @@ RestSays b hops = (more : List Hop) (r : RestReply) → RestPromise b (hops ++ m
 -- every list of calls is that of one
 pub record ChainsExist (P : Plan) : Type 0 where
   pub begins : (hops : List Hop) (book : List ℕ) → 2000 ≤ length hops → 6400 ≤ length book
-      → (r : FreshReply) × (left : Bench) × (hops-left : List Hop) × (book-left : List ℕ)
+      → (r : Result Unit ListTooShort) × (left : Bench) × (hops-left : List Hop) × (book-left : List ℕ)
       × FreshPromise P.units P.count P.groups P.parents hops book r left hops-left book-left × (fresh_answer r ≡ [])
   pub goes-on_sending : {past : List Answered} {b : Bench} {hops : List Hop} {book : List ℕ} → Called P past b hops book
       → (source group word : ℕ) (h : Loan Hop 2000)
-      → (r : SendReply) × (left : Bench) × (hops-left : List Hop) × SendPromise b source group word (lent h hops) r left hops-left
+      → (r : Result ℕ SendRefusal) × (left : Bench) × (hops-left : List Hop)
+      × SendPromise b source group word (lent h hops) r left hops-left
   pub goes-on_arriving : {past : List Answered} {b : Bench} {hops : List Hop} {book : List ℕ} → Called P past b hops book
       → (hop : ℕ) (h : Loan Hop 2000) (k : Loan ℕ 6400)
-      → (r : ArriveReply) × (left : Bench) × (hops-left : List Hop) × (book-left : List ℕ)
+      → (r : Result Receipt ArriveRefusal) × (left : Bench) × (hops-left : List Hop) × (book-left : List ℕ)
       × ArrivePromise b hop (lent h hops) (lent k book) r left hops-left book-left
   pub asks-log : {past : List Answered} {b : Bench} {hops : List Hop} {book : List ℕ} → Called P past b hops book
       → (u : ℕ) (more : List ℕ) → (log : List ℕ) × LogPromise b u (book ++ more) log
   pub asks_rest : {past : List Answered} {b : Bench} {hops : List Hop} {book : List ℕ} → Called P past b hops book
-      → (more : List Hop) → (r : RestReply) × RestPromise b (hops ++ more) r
+      → (more : List Hop) → (r : Result Bool ListTooShort) × RestPromise b (hops ++ more) r
   pub every_list : (cs : List Call) → (past : List Answered) × (b : Bench) × (hops : List Hop) × (book : List ℕ)
       × Called P past b hops book × (map call_of past ≡ cs)

@@ -1,7 +1,7 @@
 -- What each function of the engine computes, for any contents. These definitions say how the code goes; what it is worth is said by
 -- specs/Promises.antt, and proofs/ leads from here to there.
 use Rattle.std.specs.Prelude.{ℕ, zero, suc, ◌-◌, ◌*◌, Bool, not, ◌&&◌, ◌||◌, cond, List, ltb, leb, eqb, length, take}
-use Rattle.std.specs.Prelude.{drop, replicate}
+use Rattle.std.specs.Prelude.{drop, replicate, Result, Ok, Err}
 use Rattle.sets.specs.Sets.{member, intersection, size}
 use Rattle.model.specs.declared.Hop.{Hop}
 use Rattle.model.specs.Network.{no_hop, hop_at, set_state, is_out}
@@ -13,17 +13,16 @@ use Rattle.hops.specs.Access.{next_of_pair, Forwarding, with_pairs, forwarded, f
 use Rattle.bench_promises.specs.declared.Totals.{Totals}
 use Rattle.bench_promises.specs.declared.arrival.Arrival.{Arrival}
 use Rattle.bench_promises.specs.declared.arrival.Delivery.{Delivery}
-use Rattle.bench_promises.specs.declared.replies.SendReply.{SendReply}
-use Rattle.bench_promises.specs.declared.replies.SendReply.TheVariants.{Sent, ListTooShort as SendTooShort, NoSuchUnit}
-use Rattle.bench_promises.specs.declared.replies.SendReply.TheVariants.{NoSuchGroup, TooManyMessages, RoutesTooLong}
-use Rattle.bench_promises.specs.declared.replies.ArriveReply.{ArriveReply}
-use Rattle.bench_promises.specs.declared.replies.ArriveReply.TheVariants.{Taken, Held, Repeat, ListTooShort as ArriveTooShort}
-use Rattle.bench_promises.specs.declared.replies.ArriveReply.TheVariants.{NotMade}
-use Rattle.bench_promises.specs.declared.replies.LogReply.{LogReply}
-use Rattle.bench_promises.specs.declared.replies.LogReply.TheVariants.{Length, ListTooShort as LogTooShort}
-use Rattle.bench_promises.specs.declared.replies.LogReply.TheVariants.{NoSuchUnit as NoSuchLog}
-use Rattle.bench_promises.specs.declared.replies.RestReply.{RestReply}
-use Rattle.bench_promises.specs.declared.replies.RestReply.TheVariants.{Rest, ListTooShort as RestTooShort}
+use Rattle.bench_promises.specs.declared.replies.ListTooShort.{ListTooShort}
+use Rattle.bench_promises.specs.declared.replies.SendRefusal.{SendRefusal}
+use Rattle.bench_promises.specs.declared.replies.SendRefusal.TheVariants.{ListTooShort as SendTooShort, NoSuchUnit, NoSuchGroup}
+use Rattle.bench_promises.specs.declared.replies.SendRefusal.TheVariants.{TooManyMessages, RoutesTooLong}
+use Rattle.bench_promises.specs.declared.replies.ArriveRefusal.{ArriveRefusal}
+use Rattle.bench_promises.specs.declared.replies.ArriveRefusal.TheVariants.{ListTooShort as ArriveTooShort, NotMade}
+use Rattle.bench_promises.specs.declared.replies.Receipt.{Receipt}
+use Rattle.bench_promises.specs.declared.replies.Receipt.TheVariants.{Taken, Held, Repeat}
+use Rattle.bench_promises.specs.declared.replies.LogRefusal.{LogRefusal}
+use Rattle.bench_promises.specs.declared.replies.LogRefusal.TheVariants.{ListTooShort as LogTooShort, NoSuchUnit as NoSuchLog}
 use Rattle.bench_promises.specs.State.{Bench}
 
 -- Lists are named so: ts the tables of the forest, ms the messages, ps the pair counts, gs the gauges, hs the hops.
@@ -61,13 +60,13 @@ send_refusal t ts s g hops =
     (refuse (leb 200 t.sent) 14
     (refuse (ltb 2000 (plus t.routed (size (route_in ts g)))) 15 0))))
 
-unfoldable pub sent_reply : Totals → ℕ → SendReply
+unfoldable pub sent_reply : Totals → ℕ → Result ℕ SendRefusal
 sent_reply t refusal =
-    refuse (eqb refusal 1) SendTooShort
-    (refuse (eqb refusal 12) NoSuchUnit
-    (refuse (eqb refusal 13) NoSuchGroup
-    (refuse (eqb refusal 14) TooManyMessages
-    (refuse (eqb refusal 15) RoutesTooLong (Sent (plus t.sent 1))))))
+    refuse (eqb refusal 1) (Err SendTooShort)
+    (refuse (eqb refusal 12) (Err NoSuchUnit)
+    (refuse (eqb refusal 13) (Err NoSuchGroup)
+    (refuse (eqb refusal 14) (Err TooManyMessages)
+    (refuse (eqb refusal 15) (Err RoutesTooLong) (Ok (plus t.sent 1))))))
 
 -- the number of its hop among those of the pair
 unfoldable pub sequence_of : (ts : List ℕ) → (source group : ℕ) → List (List (List ℕ)) → ℕ
@@ -100,8 +99,8 @@ arrive_refusal made j hops book = refuse (ltb hops 2000) 1 (refuse (ltb book 640
 unfoldable pub is_closed : ℕ → Hop → Bool
 is_closed refusal h = not (eqb refusal 0 && is_out h)
 
-unfoldable pub closed_reply : ℕ → ArriveReply
-closed_reply refusal = refuse (eqb refusal 1) ArriveTooShort (refuse (eqb refusal 16) NotMade Repeat)
+unfoldable pub closed_reply : ℕ → Result Receipt ArriveRefusal
+closed_reply refusal = refuse (eqb refusal 1) (Err ArriveTooShort) (refuse (eqb refusal 16) (Err NotMade) (Ok Repeat))
 
 -- the hop is the next of its pair
 unfoldable pub is_next : ℕ → Hop → Bool
@@ -238,8 +237,8 @@ finished_pairs a ps = cond (eqb a.taken 0) ps (added_in ps 1 a.sender a.receiver
 unfoldable pub finished_gauges : Arrival → List ℕ → List ℕ
 finished_gauges a gs = cond (eqb a.taken 0) gs (with_column gs 0 32 a.receiver a.length)
 
-unfoldable pub finished_reply : Arrival → ArriveReply
-finished_reply a = refuse (eqb a.taken 0) Held (Taken a.taken)
+unfoldable pub finished_reply : Arrival → Result Receipt ArriveRefusal
+finished_reply a = refuse (eqb a.taken 0) (Ok Held) (Ok (Taken a.taken))
 
 -- from its beginning to its end: the hop j, which is out and the next of its pair, is held, and its pair settled. Every copy that waits is
 -- taken: there are at most 2,000.
@@ -251,14 +250,15 @@ module _ (t : Totals) (ts ms : List ℕ) (ps : List (List (List ℕ))) (gs : Lis
 
 -- ---- rest
 
-unfoldable pub rest_reply : Totals → ℕ → RestReply
-rest_reply t hops = refuse (ltb hops 2000) RestTooShort (Rest (eqb t.taken t.made))
+unfoldable pub rest_reply : Totals → ℕ → Result Bool ListTooShort
+rest_reply t hops = refuse (ltb hops 2000) (Err (record {})) (Ok (eqb t.taken t.made))
 
 -- ---- log
 
 -- the length of a unit's log, and 1 or 17
-unfoldable pub log_reply : (ts gs : List ℕ) → (unit book : ℕ) → LogReply
-log_reply ts gs u book = refuse (ltb book 6400) LogTooShort (refuse (leb (unit_count ts) u) NoSuchLog (Length (column_at gs 0 32 u)))
+unfoldable pub log_reply : (ts gs : List ℕ) → (unit book : ℕ) → Result ℕ LogRefusal
+log_reply ts gs u book =
+    refuse (ltb book 6400) (Err LogTooShort) (refuse (leb (unit_count ts) u) (Err NoSuchLog) (Ok (column_at gs 0 32 u)))
 
 -- the part that log hands back: x where it is not turned away, and 0 where it is or where the unit has no row
 unfoldable pub unless_refused : (ts : List ℕ) → (unit book x : ℕ) → ℕ

@@ -3,7 +3,7 @@
 -- The one premise: an unrefused `build` or `check` of these units and groups gave the forest (`Planned`), and bench, hops and book are
 -- those that a list of calls has left. A list may be longer: only the first 2,000 hops and 6,400 numbers are used, and all others stay.
 use Rattle.std.specs.Prelude.{◌≡◌, ◌⊎◌, ℕ, ◌+◌, ◌*◌, ◌≤◌, ◌<◌, List, [], ◌∷◌, ◌++◌, length}
-use Rattle.std.specs.Prelude.{take, drop}
+use Rattle.std.specs.Prelude.{take, drop, Bool, Result}
 use Rattle.std.specs.Borrow.{Bor}
 use Rattle.model.specs.declared.Hop.{Hop}
 use Rattle.model.specs.Network.{Plan, Network, fresh_on, plan_in_use}
@@ -12,11 +12,11 @@ use Rattle.model.specs.Rules.{send}
 use Rattle.model.specs.Rules.{arrive}
 use Rattle.model.specs.Calls.{Call, run, network_of, LogAnswer, LogRefused, Log, log, RestRefused, Rest}
 use Rattle.model.specs.Demand3.{Planned}
-use Rattle.bench_promises.specs.declared.replies.FreshReply.{FreshReply}
-use Rattle.bench_promises.specs.declared.replies.SendReply.{SendReply}
-use Rattle.bench_promises.specs.declared.replies.ArriveReply.{ArriveReply}
-use Rattle.bench_promises.specs.declared.replies.LogReply.{LogReply}
-use Rattle.bench_promises.specs.declared.replies.RestReply.{RestReply}
+use Rattle.bench_promises.specs.declared.replies.ListTooShort.{ListTooShort}
+use Rattle.bench_promises.specs.declared.replies.SendRefusal.{SendRefusal}
+use Rattle.bench_promises.specs.declared.replies.ArriveRefusal.{ArriveRefusal}
+use Rattle.bench_promises.specs.declared.replies.Receipt.{Receipt}
+use Rattle.bench_promises.specs.declared.replies.LogRefusal.{LogRefusal}
 use Rattle.bench_promises.specs.Replies.{fresh_answer, send_answer, arrive_answer, LengthAnswer, LengthRefused, Length, log_answer}
 use Rattle.bench_promises.specs.Replies.{rest_answer}
 use Rattle.bench_promises.specs.State.{Bench, hop_records, log_book, bench_of}
@@ -41,7 +41,7 @@ abbrev pub fresh_network : (units count : ℕ) (groups parents : List ℕ) → N
 fresh_network n c gs ps = fresh_on (record { units = n; count = c; groups = gs; parents = ps })
 
 pub record FreshPromise (units count : ℕ) (groups parents : List ℕ) (hops : List Hop) (book : List ℕ)
-    (r : FreshReply) (left : Bench) (hops-left : List Hop) (book-left : List ℕ) : Type 0 where
+    (r : Result Unit ListTooShort) (left : Bench) (hops-left : List Hop) (book-left : List ℕ) : Type 0 where
   pub short : (length hops < 2000) ⊎ (length book < 6400) → (fresh_answer r ≡ 1 ∷ []) × (hops-left ≡ hops) × (book-left
       ≡ book)
   pub whole : 2000 ≤ length hops → 6400 ≤ length book → (fresh_answer r ≡ [])
@@ -53,12 +53,12 @@ pub record FreshPromise (units count : ℕ) (groups parents : List ℕ) (hops : 
 -- ---- send
 
 -- what a send answers and leaves is the rule's outcome o
-pub record SentAs (o : Outcome) (hops : List Hop) (r : SendReply) (left : Bench) (hops-left : List Hop) : Type 0 where
+pub record SentAs (o : Outcome) (hops : List Hop) (r : Result ℕ SendRefusal) (left : Bench) (hops-left : List Hop) : Type 0 where
   pub answer : send_answer r ≡ answer_of o
   pub bench : left ≡ bench_of (left_of o)
   pub records : hops-left ≡ hop_records (left_of o) ++ drop 2000 hops
 
-pub record SendPromise (b : Bench) (source group word : ℕ) (hops : List Hop) (r : SendReply) (left : Bench)
+pub record SendPromise (b : Bench) (source group word : ℕ) (hops : List Hop) (r : Result ℕ SendRefusal) (left : Bench)
     (hops-left : List Hop) : Type 0
   where
     -- turned away, whatever it was handed, it leaves the very same values
@@ -70,14 +70,14 @@ pub record SendPromise (b : Bench) (source group word : ℕ) (hops : List Hop) (
 -- ---- arrive
 
 pub record ArrivedAs (o : Outcome) (hops : List Hop) (book : List ℕ)
-    (r : ArriveReply) (left : Bench) (hops-left : List Hop) (book-left : List ℕ) : Type 0 where
+    (r : Result Receipt ArriveRefusal) (left : Bench) (hops-left : List Hop) (book-left : List ℕ) : Type 0 where
   pub answer : arrive_answer r ≡ answer_of o
   pub bench : left ≡ bench_of (left_of o)
   pub records : hops-left ≡ hop_records (left_of o) ++ drop 2000 hops
   pub numbers : book-left ≡ log_book (left_of o) ++ drop 6400 book
 
 pub record ArrivePromise (b : Bench) (hop : ℕ) (hops : List Hop) (book : List ℕ)
-    (r : ArriveReply) (left : Bench) (hops-left : List Hop) (book-left : List ℕ) : Type 0 where
+    (r : Result Receipt ArriveRefusal) (left : Bench) (hops-left : List Hop) (book-left : List ℕ) : Type 0 where
   pub refused : (number : ℕ) → arrive_answer r ≡ Refused number → (left ≡ b) × (hops-left ≡ hops) × (book-left ≡ book)
   pub short : (length hops < 2000) ⊎ (length book < 6400) → arrive_answer r ≡ Refused 1
   pub rule : (P : Plan) → Planned P → (cs : List Call) → b ≡ bench_of (after P cs) → OfHops (after P cs) hops
@@ -86,7 +86,7 @@ pub record ArrivePromise (b : Bench) (hop : ℕ) (hops : List Hop) (book : List 
 
 -- ---- rest
 
-pub record RestPromise (b : Bench) (hops : List Hop) (r : RestReply) : Type 0 where
+pub record RestPromise (b : Bench) (hops : List Hop) (r : Result Bool ListTooShort) : Type 0 where
   pub short : length hops < 2000 → rest_answer r ≡ RestRefused 1
   pub rule : (P : Plan) → Planned P → (cs : List Call) → b ≡ bench_of (after P cs) → OfHops (after P cs) hops
       → rest_answer r ≡ Rest (quiescent (after P cs))
@@ -129,7 +129,7 @@ pub record PartPromise (b : Bench) (unit : ℕ) (book : List ℕ) (start count :
   pub rule : (P : Plan) → Planned P → (cs : List Call) → b ≡ bench_of (after P cs) → OfBook (after P cs) book
       → unit < (plan_in_use (after P cs)).units → start ≡ unit * 200
 
-pub record LengthPromise (b : Bench) (unit : ℕ) (book : List ℕ) (r : LogReply) : Type 0 where
+pub record LengthPromise (b : Bench) (unit : ℕ) (book : List ℕ) (r : Result ℕ LogRefusal) : Type 0 where
   pub short : length book < 6400 → log_answer r ≡ LengthRefused 1
   pub rule : (P : Plan) → Planned P → (cs : List Call) → b ≡ bench_of (after P cs) → OfBook (after P cs) book
       → log_answer r ≡ length_answer (log unit (length book) (after P cs))

@@ -6,7 +6,10 @@ mod arrival;
 mod replies;
 
 pub use arrival::{Arrival, Delivery};
-pub use replies::{ArriveReply, FreshReply, LogReply, RestReply, SendReply};
+pub use replies::{
+    ArriveRefusal, ArriveReply, FreshReply, ListTooShort, LogRefusal, LogReply, Receipt, RestReply,
+    SendRefusal, SendReply,
+};
 
 // Hops made and taken, messages sent, and the sum of their route sizes (document 01: way sizes).
 #[repr(C)]

@@ -1,14 +1,12 @@
 // The answers of the calls; specs/Replies.antt gives document 01's number and the values of each case.
 
-#[derive(Clone, Copy)]
-pub enum FreshReply {
-    Made,
-    ListTooShort,
-}
+// A list lent to `fresh` or to `rest` is too short.
+#[derive(Clone, Copy, Debug, PartialEq, Eq)]
+pub struct ListTooShort;
 
-#[derive(Clone, Copy)]
-pub enum SendReply {
-    Sent(u16),
+// Why a send is turned away.
+#[derive(Clone, Copy, Debug, PartialEq, Eq)]
+pub enum SendRefusal {
     ListTooShort,
     NoSuchUnit,
     NoSuchGroup,
@@ -16,24 +14,38 @@ pub enum SendReply {
     RoutesTooLong,
 }
 
-#[derive(Clone, Copy)]
-pub enum ArriveReply {
-    Taken(u16),
-    Held,
-    Repeat,
+// Why an arrival is turned away.
+#[derive(Clone, Copy, Debug, PartialEq, Eq)]
+pub enum ArriveRefusal {
     ListTooShort,
     NotMade,
 }
 
-#[derive(Clone, Copy)]
-pub enum LogReply {
-    Length(u16),
+// What becomes of an arrival that is not turned away: so many copies are taken, or the hop is held, or it came before.
+#[derive(Clone, Copy, Debug, PartialEq, Eq)]
+pub enum Receipt {
+    Taken(u16),
+    Held,
+    Repeat,
+}
+
+// Why the length of a log is not told.
+#[derive(Clone, Copy, Debug, PartialEq, Eq)]
+pub enum LogRefusal {
     ListTooShort,
     NoSuchUnit,
 }
 
-#[derive(Clone, Copy)]
-pub enum RestReply {
-    Rest(bool),
-    ListTooShort,
-}
+// Whether a fresh bench was made.
+pub type FreshReply = Result<(), ListTooShort>;
+
+// The number of the message sent.
+pub type SendReply = Result<u16, SendRefusal>;
+
+pub type ArriveReply = Result<Receipt, ArriveRefusal>;
+
+// The length of a unit's log.
+pub type LogReply = Result<u16, LogRefusal>;
+
+// Whether the bench is at rest.
+pub type RestReply = Result<bool, ListTooShort>;

@@ -5,26 +5,28 @@ use Prim.Native.Nat.{ℕ, ◌+◌, ◌-◌, ◌≤◌, ◌<◌, min}
 use native.Mathlib.Omega.{arith}
 use lib.ListN.{length, get_or, set, take, drop, length-take, length-drop, take-append-drop, get_or-eq_default}
 use lib.Seq.{get_or-take, get_or-drop, set_out, take-set-le, take-set-lt, drop-set-lt, drop-set-add}
-use Rattle.bench_store.specs.Values.{column_at, with_column}
+use Rattle.std.proofs.lemmas.List.{get_or_default}
+use Rattle.bench_store.specs.Values.{item_at, with_column}
 
 -- the column of n numbers from place k on, and number i of it
-module _ (l : List ℕ) (k n i : ℕ) where
-  pub column_read : i < n → get_or l (k + i) 0 ≡ column_at l k n i
-  unfolding column_at
-  column_read h = rw (get_or-take, get_or-drop)
+module _ {A : Type 0} (l : List A) (k n i : ℕ) where
+  pub column_read : (x none : A) → x ≡ get_or l (k + i) x → i < min n (length l - k) → x ≡ item_at none l k n i
+  unfolding item_at
+  column_read x none is h =
+      is ∙ get_or_default l (k + i) x none (omega arith) ∙ rw (get_or-take n (drop k l) i none (omega arith), get_or-drop)
 
-  pub column_none : min n (length l - k) ≤ i → 0 ≡ column_at l k n i
-  unfolding column_at
-  column_none h = sym (get_or-eq_default (take n (drop k l)) 0 (simp (length-take, length-drop) h))
+  pub column_none : (none : A) → min n (length l - k) ≤ i → none ≡ item_at none l k n i
+  unfolding item_at
+  column_none none h = sym (get_or-eq_default (take n (drop k l)) none (simp (length-take, length-drop) h))
 
-  pub column_stored : (x : ℕ) → i < n → set l (k + i) x ≡ with_column l k n i x
+  pub column_stored : (x : A) → i < n → set l (k + i) x ≡ with_column l k n i x
   unfolding with_column
   column_stored x h =
       sym (take-append-drop k _)
       ∙ rw (take-set-le k l (k + i) x (omega arith), drop-set-add)
       (ap (take k l ++◌) (sym (take-append-drop n _) ∙ rw (take-set-lt, drop-set-lt)))
 
-  pub column_kept : (x : ℕ) → min n (length l - k) ≤ i → l ≡ with_column l k n i x
+  pub column_kept : (x : A) → min n (length l - k) ≤ i → l ≡ with_column l k n i x
   unfolding with_column
   column_kept x h =
       let out : length (take n (drop k l)) ≤ i = simp (length-take, length-drop) h in

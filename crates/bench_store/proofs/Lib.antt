@@ -1,3 +1,2 @@
 pub mod ColumnLaws
 pub mod Parts
-pub mod Grids

@@ -1,15 +1,46 @@
--- What the proofs of the book's functions share: a part of the book that was lent and came back with one number put in it. Assumes nothing.
-use mathlib.Core.Path.{◌≡◌, sym, ap, ◌∙◌}
+-- What the proofs of the functions over lent lists share: a part that came back filled, or with one number put in it. Assumes nothing.
+use mathlib.Core.Path.{◌≡◌, refl, sym, ap, ◌∙◌}
 use mathlib.Core.Logic.{by_cases}
-use mathlib.Core.List.{List}
-use Prim.Native.Nat.{ℕ, ◌+◌, ◌*◌, ◌-◌, ◌≤◌, ◌<◌}
+use mathlib.Core.List.{List, [], ◌∷◌, ◌++◌}
+use Prim.Native.Nat.{ℕ, zero, suc, ◌+◌, ◌*◌, ◌-◌, ◌≤◌, ◌<◌, min}
 use native.Mathlib.Decide.{dec_lt}
+use native.Mathlib.Nat.{not-suc-le-zero}
 use native.Mathlib.Omega.{arith}
 use borrow.Author.Tests.{lt-ltb, le-ltb, le-leb}
 use borrow.Rule.Slice.PartMut.{mid_of, put_mid, mid_len, put_same, set_mid_at}
-use lib.ListN.{length, set}
+use lib.ListN.{length, set, take, drop, replicate, length-take}
 use lib.Seq.{set_out}
-use Rattle.bench_store.specs.Values.{logged}
+use Rattle.bench_store.specs.Values.{filled, logged}
+
+-- the first places are filled one after the other
+module _ {A : Type 0} (x : A) where
+  filled_none : (n : ℕ) → filled n x [] ≡ []
+  unfolding filled
+  filled_none zero = refl
+  filled_none (suc n) = ap (λ (l : List A). set l n x) (filled_none n)
+
+  filled_one : (n : ℕ) (y : A) (l : List A) → filled (suc n) x (y ∷ l) ≡ x ∷ filled n x l
+  unfolding filled
+  filled_one zero y l = refl
+  filled_one (suc n) y l = ap (λ (l : List A). set l (suc n) x) (filled_one n y l)
+
+  -- a part at the front, as long as the list has it, holds x alone
+  filled_front : (n m : ℕ) (l : List A) → m ≡ min n (length l) → replicate m x ++ drop m l ≡ filled n x l
+  unfolding filled
+  filled_front zero zero l e = refl
+  filled_front zero (suc m) l e = absurd (not-suc-le-zero (let z : suc m ≤ 0 = omega (arith, e) in z))
+  filled_front (suc n) zero [] e = sym (filled_none (suc n))
+  filled_front (suc n) (suc m) [] e = absurd (not-suc-le-zero (let z : suc m ≤ 0 = omega (arith, e) in z))
+  filled_front (suc n) zero (y ∷ l) e = absurd (not-suc-le-zero (let z : 1 ≤ 0 = omega (arith, e) in z))
+  filled_front (suc n) (suc m) (y ∷ l) e =
+      ap (λ (l : List A). x ∷ l) (filled_front n m l (omega (arith, e))) ∙ sym (filled_one n y l)
+
+  -- such a part is back, filled
+  pub filled_part : (n m : ℕ) (l part : List A) → m ≡ min n (length l) → part ≡ replicate (length (take m l)) x
+      → part ++ drop m l ≡ filled n x l
+  filled_part n m l part e is =
+      ap (λ (front : List A). front ++ drop m l) (is ∙ ap (λ (k : ℕ). replicate k x) (length-take m l ∙ omega (arith, e)))
+      ∙ filled_front n m l e
 
 -- the part from a to e
 module _ (book : List ℕ) (a e n m : ℕ) (fits : e ≤ length book) where

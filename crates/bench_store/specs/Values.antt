@@ -21,11 +21,15 @@ filled (suc n) x l = set (filled n x l) n x
 
 -- ---- columns: n numbers from place k on
 
-unfoldable pub column_at : List ℕ → (k n i : ℕ) → ℕ
-column_at l k n i = get_or (take n (drop k l)) i 0
+-- number i; `none` where there is none
+unfoldable pub item_at : {A : Type 0} → A → List A → (k n i : ℕ) → A
+item_at none l k n i = get_or (take n (drop k l)) i none
+
+abbrev pub column_at : List ℕ → (k n i : ℕ) → ℕ
+column_at l k n i = item_at 0 l k n i
 
 -- another number i
-unfoldable pub with_column : List ℕ → (k n i x : ℕ) → List ℕ
+unfoldable pub with_column : {A : Type 0} → List A → (k n i : ℕ) → A → List A
 with_column l k n i x = take k l ++ (set (take n (drop k l)) i x ++ drop n (drop k l))
 
 -- ---- pair counts: rows of receivers, by sender

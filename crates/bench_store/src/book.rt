@@ -4,7 +4,7 @@ ghost use Rattle.bench_store.specs.Values.{logged, filled};
 
 use crate::Limits;
 
-// A message goes behind the last in a unit's own row, which holds `length` so far.
+// A message goes behind the last in a unit's own row, which holds `length` so far. std's `get_mut` says nothing of what a slice then holds.
 fn append(row: &mut [u16], length: usize, message: u16)
     ensures { row.new ≡ set row.old length message }
 {
@@ -14,16 +14,16 @@ fn append(row: &mut [u16], length: usize, message: u16)
 }
 
 // Appends a message to the row of a unit.
+#[tactic(auto, unfolding(crate::specs::Values::logged))]
 pub fn log(book: &mut [u16], unit: usize, length: usize, message: u16)
     ensures { book.new ≡ logged unit length message book.old }
 {
-    if Limits::UNITS <= unit {
-        return;
-    }
-    let start = unit * Limits::MESSAGES;
-    let end = start + Limits::MESSAGES;
-    if end <= book.len() {
-        append(&mut book[start..end], length, message);
+    if unit < Limits::UNITS {
+        let start = unit * Limits::MESSAGES;
+        let end = start + Limits::MESSAGES;
+        if end <= book.len() {
+            append(&mut book[start..end], length, message);
+        }
     }
 }
 
@@ -31,11 +31,6 @@ pub fn log(book: &mut [u16], unit: usize, length: usize, message: u16)
 pub fn clear(book: &mut [u16], count: usize)
     ensures { book.new ≡ filled count 0 book.old }
 {
-    let mut at = 0;
-    while at < count {
-        if at < book.len() {
-            book[at] = 0;
-        }
-        at += 1;
-    }
+    let end = count.min(book.len());
+    book[..end].fill(0);
 }

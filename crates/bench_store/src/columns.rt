@@ -1,6 +1,6 @@
-// A list made of columns: a column has `size` numbers, the first of them at `start`.
+// Lists made of columns: the C interface lends them as lists of numbers.
 ghost use Rattle.std.specs.Prelude.{◌≡◌};
-ghost use Rattle.bench_store.specs.Values.{column_at, with_column};
+ghost use Rattle.bench_store.specs.Values.{item_at, with_column};
 
 use crate::Limits;
 
@@ -9,11 +9,20 @@ use crate::Limits;
 pub struct Messages {}
 
 impl Messages {
-    pub const SOURCES: usize = 0;
+    pub const SOURCES: Column = Column {
+        start: 0,
+        size: Limits::MESSAGES,
+    };
 
-    pub const GROUPS: usize = Limits::MESSAGES;
+    pub const GROUPS: Column = Column {
+        start: Limits::MESSAGES,
+        size: Limits::MESSAGES,
+    };
 
-    pub const WORDS: usize = 2 * Limits::MESSAGES;
+    pub const WORDS: Column = Column {
+        start: 2 * Limits::MESSAGES,
+        size: Limits::MESSAGES,
+    };
 
     pub const SIZE: usize = 3 * Limits::MESSAGES;
 }
@@ -23,71 +32,61 @@ impl Messages {
 pub struct Gauges {}
 
 impl Gauges {
-    pub const LENGTHS: usize = 0;
+    pub const LENGTHS: Column = Column {
+        start: 0,
+        size: Limits::UNITS,
+    };
 
     pub const SIZE: usize = Limits::UNITS;
 }
 
-// Number i of a column of 32-bit numbers.
-pub fn number(list: &[u32], start: usize, size: usize, i: usize) -> u32
-    ensures { result ≡ column_at list.now start size i }
-{
-    if size <= i {
-        return 0;
-    }
-    if list.len() <= start {
-        return 0;
-    }
-    if list.len() - start <= i {
-        return 0;
-    }
-    list[start + i]
+// A number that columns hold.
+pub trait Number: Copy {
+    ghost ZERO: { Self };
+
+    // What a place past the column reads as.
+    const ZERO: Self;
 }
 
-// Another number i.
-pub fn set_number(list: &mut [u32], start: usize, size: usize, i: usize, x: u32)
-    ensures { list.new ≡ with_column list.old start size i x }
-{
-    if size <= i {
-        return;
-    }
-    if list.len() <= start {
-        return;
-    }
-    if list.len() - start <= i {
-        return;
-    }
-    list[start + i] = x;
+impl Number for u16 {
+    ghost ZERO = { 0 };
+
+    const ZERO: u16 = 0;
 }
 
-// Number i of a column of 16-bit numbers.
-pub fn small_number(list: &[u16], start: usize, size: usize, i: usize) -> u16
-    ensures { result ≡ column_at list.now start size i }
-{
-    if size <= i {
-        return 0;
-    }
-    if list.len() <= start {
-        return 0;
-    }
-    if list.len() - start <= i {
-        return 0;
-    }
-    list[start + i]
+impl Number for u32 {
+    ghost ZERO = { 0 };
+
+    const ZERO: u32 = 0;
 }
 
-// Another number i.
-pub fn set_small_number(list: &mut [u16], start: usize, size: usize, i: usize, x: u16)
-    ensures { list.new ≡ with_column list.old start size i x }
-{
-    if size <= i {
-        return;
+// The part of a list that has `size` numbers, the first of them at `start`.
+#[derive(Clone, Copy)]
+pub struct Column {
+    pub start: usize,
+    pub size: usize,
+}
+
+impl Column {
+    // Number i of the column.
+    pub fn number<T: Number>(self, list: &[T], i: usize) -> T
+        ensures { result ≡ item_at T.ZERO list.now self.start self.size i }
+    {
+        let held = list.len().saturating_sub(self.start);
+        if i < self.size.min(held) {
+            list[self.start + i]
+        } else {
+            T::ZERO
+        }
     }
-    if list.len() <= start {
-        return;
+
+    // Another number i.
+    pub fn set_number<T: Number>(self, list: &mut [T], i: usize, x: T)
+        ensures { list.new ≡ with_column list.old self.start self.size i x }
+    {
+        let held = list.len().saturating_sub(self.start);
+        if i < self.size.min(held) {
+            list[self.start + i] = x;
+        }
     }
-    if list.len() - start <= i {
-        return;
-    }
-    list[start + i] = x;
 }

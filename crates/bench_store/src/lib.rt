@@ -31,17 +31,15 @@ impl Limits {
 pub fn capped(n: u32) -> u16
     ensures { result ≡ cappedOf n }
 {
-    if n < 65536 {
-        return n as u16;
-    }
-    65535
+    u16::try_from(n).unwrap_or(u16::MAX)
 }
 
 // The sum, as far as 16 bits hold it.
+#[tactic(auto, unfolding(crate::specs::Values::plus, crate::specs::Values::capped))]
 pub fn plus(a: u16, b: u16) -> u16
     ensures { result ≡ plusOf a b }
 {
-    capped(a as u32 + b as u32)
+    a.saturating_add(b)
 }
 
 // A number below 256; 0 for any other.
@@ -49,8 +47,5 @@ pub fn plus(a: u16, b: u16) -> u16
 pub fn byte(n: u16) -> u8
     ensures { result ≡ byte_of n }
 {
-    if n < 256 {
-        return n as u8;
-    }
-    0
+    u8::try_from(n).unwrap_or(0)
 }

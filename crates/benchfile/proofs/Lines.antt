@@ -1,28 +1,26 @@
 -- Laws of reading a file line by line: what a line reader answers, one line more, or a faulty one. Assumes nothing.
-use mathlib.Core.Path.{◌≡◌, refl, sym, ap, ◌∙◌}
-use mathlib.Core.Logic.{inl, inr, by_cases}
-use mathlib.Core.Bool.{false, cond}
+use mathlib.Core.Path.{◌≡◌, refl, sym, subst, ◌∙◌}
+use mathlib.Core.Logic.{by_cases}
 use mathlib.Core.List.{List, [], ◌∷◌}
 use Prim.Native.Nat.{ℕ, zero, suc, ◌≤◌, ◌<◌}
-use native.Mathlib.Decide.{dec_lt, ℕ_discrete}
+use native.Mathlib.Nat.{suc-ne-zero}
+use native.Mathlib.Decide.{dec_lt}
 use native.Mathlib.Omega.{arith}
 use lib.ListN.{length, drop}
-use lib.Dec.{eqb}
+use Rattle.std.specs.Prelude.{Result, Ok, Err}
 use Rattle.text.specs.Text.{split}
 use Rattle.text.specs.Writing.{place_of}
 use Rattle.text.proofs.Pieces.{place_le, split-place, split-none, split-some}
-use Rattle.lines.specs.Lines.{count_in, count_fault, parents_fault, parents_in, is_build, parents_table, event_fault, event_in}
-use Rattle.lines.specs.Lines.{event_numbers}
-use Rattle.lines.specs.Fields.{first_line, fault_at, no_field, field_at, no_drawing, drawing_at, no_event, event_at}
-use Rattle.lines.specs.declared.fields.Field.{Field}
-use Rattle.lines.specs.declared.entries.Drawing.{Drawing}
-use Rattle.lines.specs.declared.events.EventField.{EventField}
-use Rattle.lines.proofs.Ends.{fault_line, fault_none, said-good, said-faulty}
-use Rattle.lines.proofs.Faults.{FaultNumber}
-use Rattle.lines.proofs.RoundTrip.{count-said, three_numbers}
+use Rattle.lines.specs.Lines.{count_in, count_fault}
+use Rattle.lines.specs.Fields.{fault_number, first_line, fault_at, Says, Reads}
+use Rattle.lines.specs.declared.Fault.{Fault}
+use Rattle.lines.specs.declared.Fault.TheVariants.{NoLine, BadValue, BadCount, NoSuchUnit, NotRising, WrongLength, TooManyEvents}
+use Rattle.lines.specs.declared.Line.{Line}
+use Rattle.lines.proofs.Ends.{fault_line, fault_none}
+use Rattle.lines.proofs.RoundTrip.{count-said}
 use Rattle.benchfile.specs.File.{State, Stopped, Refused, next, step, finish, steps}
-use Rattle.benchfile.specs.Steps.{BadLine}
-use Rattle.benchfile.proofs.Contents.{numbers_three}
+use Rattle.benchfile.specs.Steps.{AtLine, BadLine}
+use Rattle.benchfile.specs.declared.FaultyLine.{FaultyLine}
 
 -- ---- one line more
 
@@ -57,90 +55,64 @@ steps-none k rest s e = rw (split-none 10 rest e)
 -- a state in which line k, the first of a text, is read: its fault, and the state after a good one
 pub record Due (k : ℕ) (rest : List ℕ) (s : State) (fault : List ℕ → ℕ) (then : List ℕ → State) : Type 0 where
   pub reads : (line : List ℕ) → step k line s ≡ next (fault line) k (then line)
-  pub number : (line : List ℕ) → FaultNumber (fault line)
   pub missing : finish k rest s ≡ Refused (3 ∷ k ∷ [])
+
+pub fault_some : (f : Fault) → fault_number f ≡ 0 → ⊥
+unfolding fault_number
+fault_some NoLine = suc-ne-zero 2
+fault_some BadValue = suc-ne-zero 3
+fault_some BadCount = suc-ne-zero 4
+fault_some NoSuchUnit = suc-ne-zero 5
+fault_some NotRising = suc-ne-zero 6
+fault_some WrongLength = suc-ne-zero 7
+fault_some TooManyEvents = suc-ne-zero 8
 
 -- ---- what a line reader answers
 
--- its fault, and where that is 0 how many bytes the line takes with its LF
-pub record LineRead (fault : List ℕ → ℕ) (rest : List ℕ) (f used : ℕ) : Type 0 where
-  pub is : f ≡ fault_at fault rest
-  pub takes : f ≡ 0 → used ≡ suc (place_of 10 rest)
+module _ {fault : List ℕ → ℕ} {rest : List ℕ} where
+  -- a faulty line
+  pub read_fault : {k : ℕ} {s : State} {then : List ℕ → State} → Due k rest s fault then → (f : Fault)
+      → fault_number f ≡ fault_at fault rest → BadLine (steps k (split 10 rest) s) (record { fault = f; line = k })
+  read_fault {k} {s} {then} d f is = by_cases (dec_lt (place_of 10 rest) (length rest))
+      (λ h. let e : fault_number f ≡ fault (first_line rest) = is ∙ fault_line fault rest h in
+      steps-line k rest s h
+      ∙ rw (d.reads (first_line rest), ← e, next_fault (fault_number f) k (then (first_line rest)) (fault_some f))
+      (stopped (suc k) _ _))
+      (λ h. let e : fault_number f ≡ 3 = is ∙ fault_none fault rest (omega arith) in
+      steps-none k rest s (omega (arith, place_le 10 rest)) ∙ rw e d.missing)
 
-module _ {fault : List ℕ → ℕ} {rest : List ℕ} {f used : ℕ} (r : LineRead fault rest f used) where
-  -- a good line has its LF
-  read-place : f ≡ 0 → place_of 10 rest < length rest
-  read-place z =
-      by_cases (dec_lt (place_of 10 rest) (length rest)) (λ h. h) (λ h. omega (arith, r.is, fault_none fault rest (omega arith)))
+  -- a line without fault
+  module _ {A : Type 0} {value : List ℕ → A} {line : Line A} (g : Says fault value rest line) where
+    -- it has its LF
+    read_place : place_of 10 rest < length rest
+    read_place =
+        by_cases (dec_lt (place_of 10 rest) (length rest)) (λ h. h) (λ h. omega (arith, g.good, fault_none fault rest (omega arith)))
 
-  read-line : f ≡ 0 → fault (first_line rest) ≡ 0
-  read-line z = sym (r.is ∙ fault_line fault rest (read-place z)) ∙ z
+    pub read_line : fault (first_line rest) ≡ 0
+    read_line = sym (fault_line fault rest read_place) ∙ g.good
 
-  pub read-inside : f ≡ 0 → used ≤ length rest
-  read-inside z = omega (arith, r.takes z, read-place z)
+    pub read-inside : (0 < line.used) × (line.used ≤ length rest)
+    read-inside = omega (arith, g.takes, read_place)
 
-  module _ {k : ℕ} {s : State} {then : List ℕ → State} (d : Due k rest s fault then) where
-    pub read_fault : (f ≡ 0 → ⊥) → BadLine (steps k (split 10 rest) s) f k
-    read_fault b = by_cases (dec_lt (place_of 10 rest) (length rest))
-        (λ h. let e = r.is ∙ fault_line fault rest h in
-        bad (rw e (d.number (first_line rest)))
-        (steps-line k rest s h ∙ rw (d.reads (first_line rest), ← e, next_fault f k (then (first_line rest)) b) (stopped (suc k) _ _)))
-        (λ h. let e = r.is ∙ fault_none fault rest (omega arith) in
-        bad (inr (omega arith)) (steps-none k rest s (omega (arith, place_le 10 rest)) ∙ rw e d.missing))
-      where
-        bad : FaultNumber f → steps k (split 10 rest) s ≡ Refused (f ∷ k ∷ []) → BadLine (steps k (split 10 rest) s) f k
-        bad (inl z) e = absurd (b z)
-        bad (inr (low, high)) e = record { low = low; high = high; ends = e }
-
-    pub read-good : f ≡ 0 → steps k (split 10 rest) s ≡ steps (suc k) (split 10 (drop used rest)) (then (first_line rest))
+    pub read-good : {k : ℕ} {s : State} {then : List ℕ → State} → Due k rest s fault then
+        → steps k (split 10 rest) s ≡ steps (suc k) (split 10 (drop line.used rest)) (then (first_line rest))
     unfolding next
-    read-good z = steps-line k rest s (read-place z) ∙ rw (d.reads (first_line rest), read-line z, r.takes z)
+    read-good {k} {s} {then} d = steps-line k rest s read_place ∙ rw (d.reads (first_line rest), read_line, g.takes)
 
--- ---- what each line reader answers
+pub count_most : (key : List ℕ) (least most : ℕ) (rest : List ℕ) {line : Line ℕ}
+    → Says (count_fault key least most) (count_in key) rest line → line.value ≤ most
+count_most key least most rest g = rw g.says (count-said key least most (first_line rest) (read_line g)).2
 
-read_of : (fault : List ℕ → ℕ) (rest : List ℕ) {A : Type 0} (f used : A → ℕ) (good : A) (bad : ℕ → A) {r : A}
-    → r ≡ cond (eqb (fault_at fault rest) 0) good (bad (fault_at fault rest))
-    → f good ≡ 0 → used good ≡ suc (place_of 10 rest) → ((n : ℕ) → f (bad n) ≡ n)
-    → LineRead fault rest (f r) (used r) × (f r ≡ 0 → r ≡ good)
-read_of fault rest f used good bad {r} e zero-good used-good is-bad =
-    let n = fault_at fault rest in by_cases (ℕ_discrete n 0)
-    (λ z. let g : r ≡ good = e ∙ said-good n good bad z in
-    (record { is = ap f g ∙ zero-good ∙ sym z; takes = λ _. ap used g ∙ used-good }, λ _. g))
-    (λ z. let b : f r ≡ n = ap f (e ∙ said-faulty n good bad n refl z) ∙ is-bad n in
-    (record { is = b; takes = λ h. absurd (z (sym b ∙ h)) }, λ h. absurd (z (sym b ∙ h))))
+-- ---- the line beside a fault
 
-pub field-read : (fault value : List ℕ → ℕ) (rest : List ℕ) {r : Field} → r ≡ field_at fault value rest
-    → LineRead fault rest r.fault r.used × (r.fault ≡ 0 → r.value ≡ value (first_line rest))
-unfolding field_at no_field
-field-read fault value rest {r} e =
-    let said = read_of fault rest (λ (x : Field). x.fault) (λ (x : Field). x.used) _ no_field e refl refl (λ n. refl) in
-    (said.0, λ z. ap (λ (x : Field). x.value) (said.1 z))
+module _ {A : Type 0} (fault : List ℕ → ℕ) (value : List ℕ → A) (rest : List ℕ) (k : ℕ) where
+  pub line_ok : (a : Result (Line A) Fault) {r : Result (Line A) FaultyLine} → Reads fault value rest a → AtLine k a r
+      → (x : Line A) → r ≡ Ok x → Says fault value rest x
+  line_ok (Ok y) g e x h = let same : y ≡ x = cc in subst (Says fault value rest) same g
+  line_ok (Err f) g e x h = absurd cc
 
-pub count_most : (key : List ℕ) (least most : ℕ) (rest : List ℕ) {r : Field}
-    → r ≡ field_at (count_fault key least most) (count_in key) rest
-    → r.fault ≡ 0 → r.value ≤ most
-count_most key least most rest e z =
-    let said = field-read (count_fault key least most) (count_in key) rest e in
-    rw (said.1 z) (count-said key least most (first_line rest) (read-line said.0 z)).2
-
-pub drawing-read : (n : ℕ) (rest : List ℕ) {r : Drawing} → r ≡ drawing_at n rest
-    → LineRead (parents_fault n) rest r.fault r.used
-    × (r.fault ≡ 0 → (r.build ≡ is_build (parents_in (first_line rest)))
-    × (r.parents ≡ parents_table (parents_in (first_line rest))))
-unfolding drawing_at no_drawing
-drawing-read n rest {r} e =
-    let said = read_of (parents_fault n) rest (λ (x : Drawing). x.fault) (λ (x : Drawing). x.used) _ (λ f. no_drawing f 0 false) e
-    refl refl (λ f. refl) in
-    (said.0, λ z. (ap (λ (x : Drawing). x.build) (said.1 z), ap (λ (x : Drawing). x.parents) (said.1 z)))
-
-pub event-read : (rest : List ℕ) {r : EventField} → r ≡ event_at rest
-    → LineRead (event_fault 0) rest r.fault r.used
-    × (r.fault ≡ 0 → event_numbers (event_in (first_line rest)) ≡ r.first ∷ r.second ∷ r.third ∷ [])
-unfolding event_at no_event
-event-read rest {r} e =
-    let said = read_of (event_fault 0) rest (λ (x : EventField). x.fault) (λ (x : EventField). x.used) _ no_event e
-    refl refl (λ n. refl) in (
-      said.0,
-      λ z. three_numbers _ (numbers_three (event_in (first_line rest)))
-          ∙ sym (ap (λ (x : EventField). x.first ∷ x.second ∷ x.third ∷ []) (said.1 z)),
-    )
+  pub line_bad : (a : Result (Line A) Fault) {r : Result (Line A) FaultyLine} → Reads fault value rest a → AtLine k a r
+      → (e : FaultyLine) → r ≡ Err e → (P : FaultyLine → Type 0)
+      → ((f : Fault) → fault_number f ≡ fault_at fault rest → P (record { fault = f; line = k })) → P e
+  line_bad (Ok y) g a e h P b = absurd cc
+  line_bad (Err f) g a e h P b = let same : ◌≡◌ {A = FaultyLine} (record { fault = f; line = k }) e = cc in subst P same (b f g)

@@ -9,12 +9,11 @@ use borrow.Author.Tests.{le-ltb}
 use lib.ListN.{length, take, drop}
 use lib.Seq.{take-append-add, take-append_seam, take_all}
 use Rattle.benchfile.specs.File.{File, Outcome, Refused, Good, read_file, text_of}
+use Rattle.benchfile.specs.Calls.{ReadReply, WriteReply, content_read}
 use Rattle.benchfile.specs.Calls.{ReadNumbers, WroteBytes, read_answer, write_answer, numbers_of, content_of, file_of, read_says}
 use Rattle.benchfile.specs.Calls.{read_content, read_leaves, written, write_short, write_says, write_leaves, ReadPromise, WritePromise}
 use Rattle.benchfile.specs.Claims.{WellFormed}
 use Rattle.benchfile.specs.declared.Content.{Content}
-use Rattle.benchfile.specs.declared.ReadAnswer.{ReadAnswer}
-use Rattle.benchfile.specs.declared.WriteReply.{WriteReply}
 use Rattle.benchfile.proofs.Contents.{numbers-length, file-back, content_well_formed, file-good, content-back, numbers-back}
 use Rattle.benchfile.proofs.RoundTrip.{read-text, read-good, read-limits, text-read}
 
@@ -24,20 +23,20 @@ unfolding read_says
 good-outcome (Refused refusal) n line h = let z : ◌≡◌ {A = ℕ} 0 1 = cc in absurd (omega arith)
 good-outcome (Good F) n line h = (F, refl)
 
-read-good-file : {file events left : List ℕ} {a : ReadAnswer} {n line : ℕ} → ReadPromise file events a left
-    → read_answer a.reply ≡ ReadNumbers n line
+read-good-file : {file events left : List ℕ} {a : ReadReply} {n line : ℕ} → ReadPromise file events a left
+    → read_answer a ≡ ReadNumbers n line
     → (F : File) × (read_file (length events) file ≡ Good F)
 read-good-file {file} {events} {left} {a} {n} {line} p h = good-outcome (read_file (length events) file) n line (sym p.answers ∙ h)
 
 -- `read` where the file is good
-module _ {file events left : List ℕ} {a : ReadAnswer} {F : File} (p : ReadPromise file events a left)
+module _ {file events left : List ℕ} {a : ReadReply} {F : File} (p : ReadPromise file events a left)
     (e : read_file (length events) file ≡ Good F) where
   -- every file that the rules call good is read: the answer of no other
-  pub good-read : read_answer a.reply ≡ ReadNumbers (3 * length F.events) (3 + length F.groups)
+  pub good-read : read_answer a ≡ ReadNumbers (3 * length F.events) (3 + length F.groups)
   unfolding read_says
   good-read = p.answers ∙ ap read_says e
 
-  good-content : a.content ≡ content_of F
+  good-content : content_read a ≡ content_of F
   unfolding read_content
   good-content = p.content ∙ ap read_content e
 
@@ -66,14 +65,14 @@ module _ {c : Content} {events out text : List ℕ} {r : WriteReply} {F : File} 
     good-text = p.leaves ∙ ap₂ (λ (b : Bool) (t : List ℕ). write_leaves b t out) long-enough all-written
 
 -- the content of a good file, with what `read` leaves: well-formed, and it says that file
-module _ {file events left : List ℕ} {a : ReadAnswer} {F : File} (p : ReadPromise file events a left)
+module _ {file events left : List ℕ} {a : ReadReply} {F : File} (p : ReadPromise file events a left)
     (e : read_file (length events) file ≡ Good F) where
-  good_well_formed : WellFormed a.content left
+  good_well_formed : WellFormed (content_read a) left
   good_well_formed =
       rw (good-content p e, good_left p e)
       (content_well_formed F (read-good (length events) file F e) events (read-limits (length events) file F e).0)
 
-  good-file : file_of a.content (take 9000 left) ≡ F
+  good-file : file_of (content_read a) (take 9000 left) ≡ F
   good-file =
       let g = read-good (length events) file F e in
       let xs = numbers_of F.events in
@@ -84,13 +83,13 @@ module _ {file events left : List ℕ} {a : ReadAnswer} {F : File} (p : ReadProm
       ∙ file-back F g (take (9000 - length xs) ys))
 
 -- the content that `read` answers is well-formed with the events that it leaves
-pub read_well_formed : {file events left : List ℕ} {a : ReadAnswer} {n line : ℕ}
-    → ReadPromise file events a left → read_answer a.reply ≡ ReadNumbers n line → WellFormed a.content left
+pub read_well_formed : {file events left : List ℕ} {a : ReadReply} {n line : ℕ}
+    → ReadPromise file events a left → read_answer a ≡ ReadNumbers n line → WellFormed (content_read a) left
 read_well_formed p h = let (F, e) = read-good-file p h in good_well_formed p e
 
 -- what is read and written again is the same bytes; the rest of the list stays
-pub read-written : {file events left out text : List ℕ} {a : ReadAnswer} {r : WriteReply} {n line : ℕ}
-    → ReadPromise file events a left → read_answer a.reply ≡ ReadNumbers n line → WritePromise a.content left out r text
+pub read-written : {file events left out text : List ℕ} {a : ReadReply} {r : WriteReply} {n line : ℕ}
+    → ReadPromise file events a left → read_answer a ≡ ReadNumbers n line → WritePromise (content_read a) left out r text
     → 32768 ≤ length out
     → (write_answer r ≡ WroteBytes (length file)) × (text ≡ file ++ drop (length file) out)
 read-written {file} {events} {left} {out} {text} {a} {r} {n} {line} p h q l =
@@ -103,11 +102,11 @@ read-written {file} {events} {left} {out} {text} {a} {r} {n} {line} p h q l =
     )
 
 -- what is written and read again is the same content and events; the rest of the list stays
-pub written_read : {c : Content} {events out text list left : List ℕ} {r : WriteReply} {a : ReadAnswer} {n : ℕ}
+pub written_read : {c : Content} {events out text list left : List ℕ} {r : WriteReply} {a : ReadReply} {n : ℕ}
     → WellFormed c events → length (text_of (file_of c (take 9000 events))) ≤ 32768
     → 32768 ≤ length out → WritePromise c events out r text → write_answer r ≡ WroteBytes n → 9000 ≤ length list
     → ReadPromise (take n text) list a left
-    → (read_answer a.reply ≡ ReadNumbers (3 * c.events) (3 + c.count)) × (a.content ≡ c)
+    → (read_answer a ≡ ReadNumbers (3 * c.events) (3 + c.count)) × (content_read a ≡ c)
     × (left ≡ take (3 * c.events) events ++ drop (3 * c.events) list)
 unfolding content_of
 written_read {c} {events} {out} {text} {list} {left} {r} {a} {n} w m l q k lent p =
@@ -127,18 +126,18 @@ written_read {c} {events} {out} {text} {list} {left} {r} {a} {n} w m l q k lent 
     )
 
 -- what `read` answered, written and read again, is the same: the answer, the content and the events; the rest of the list stays
-pub read_again : {file events left out text list again : List ℕ} {a b : ReadAnswer} {r : WriteReply} {n line k : ℕ}
-    → ReadPromise file events a left → read_answer a.reply ≡ ReadNumbers n line
-    → WritePromise a.content left out r text → 32768 ≤ length out → write_answer r ≡ WroteBytes k
+pub read_again : {file events left out text list again : List ℕ} {a b : ReadReply} {r : WriteReply} {n line k : ℕ}
+    → ReadPromise file events a left → read_answer a ≡ ReadNumbers n line
+    → WritePromise (content_read a) left out r text → 32768 ≤ length out → write_answer r ≡ WroteBytes k
     → 9000 ≤ length list → ReadPromise (take k text) list b again
-    → (read_answer b.reply ≡ ReadNumbers n line) × (b.content ≡ a.content) × (again ≡ take n left ++ drop n list)
+    → (read_answer b ≡ ReadNumbers n line) × (content_read b ≡ content_read a) × (again ≡ take n left ++ drop n list)
 unfolding content_of
 read_again {file} {events} {left} {out} {text} {list} {again} {a} {b} {r} {n} {line} {k} p h q l wrote lent p' =
     let (F, e) = read-good-file p h in
-    let m : length (text_of (file_of a.content (take 9000 left))) ≤ 32768 = subst (λ (x : List ℕ). length x ≤ 32768)
+    let m : length (text_of (file_of (content_read a) (take 9000 left))) ≤ 32768 = subst (λ (x : List ℕ). length x ≤ 32768)
     (sym (ap text_of (good-file p e) ∙ read-text (length events) file F e)) (read-limits (length events) file F e).1 in
     let (says, same, leaves) = written_read (good_well_formed p e) m l q wrote lent p' in
-    let told : ReadNumbers (3 * a.content.events) (3 + a.content.count) ≡ ReadNumbers n line =
+    let told : ReadNumbers (3 * (content_read a).events) (3 + (content_read a).count) ≡ ReadNumbers n line =
     ap (λ (c : Content). ReadNumbers (3 * c.events) (3 + c.count)) (good-content p e) ∙ sym (good-read p e) ∙ h in
-    let count : 3 * a.content.events ≡ n = cc in
+    let count : 3 * (content_read a).events ≡ n = cc in
     (says ∙ told, same, leaves ∙ ap (λ (x : ℕ). take x left ++ drop x list) count)

@@ -1,18 +1,24 @@
 -- Laws of the lines that `write` writes: one line more, the lines of a file, the events of a list, and a part of a list that was lent for
 -- the text. Assumes nothing.
 use mathlib.Core.Path.{◌≡◌, refl, sym, ap, ◌∙◌}
+use mathlib.Core.Logic.{◌⊎◌, inl, inr, by_cases}
 use mathlib.Core.List.{List, [], ◌∷◌, ◌++◌, map, append_assoc, append-nil, map-append}
-use Prim.Native.Nat.{ℕ, zero, suc, ◌+◌, ◌*◌, ◌-◌, ◌≤◌, ◌<◌}
+use Prim.Native.Nat.{ℕ, zero, suc, ◌+◌, ◌*◌, ◌-◌, ◌≤◌, ◌<◌, min}
 use native.Mathlib.Nat.{lt_irrefl, zero-add, suc-add}
 use native.Mathlib.Numerals.{add-one}
+use native.Mathlib.Decide.{dec_lt}
 use native.Mathlib.Omega.{arith}
+use borrow.Author.Tests.{lt-ltb, le-ltb}
 use lib.ListN.{length, take, drop, get_or, take-append-drop, length-take, length-drop}
-use lib.Seq.{take-suc, length-take-le, drop-append-le, drop-cons}
-use Rattle.text.specs.Writing.{Written}
-use Rattle.text.proofs.Written.{written_append, written-full}
+use lib.Seq.{take-suc, take_all, length-take-le, drop-append-le, drop-cons}
+use Rattle.std.specs.Prelude.{Err}
+use Rattle.text.specs.declared.writing.Output.{Output}
+use Rattle.text.specs.Writing.{Written, Writes}
+use Rattle.text.proofs.Written.{writes_append, written-full}
 use Rattle.lines.specs.Lines.{Event, event_of, count_line, units_key, groups_key, group_line, parents_line, event_line}
 use Rattle.benchfile.specs.File.{File, lines_of, ended, text_of}
-use Rattle.benchfile.specs.Calls.{events_from}
+use Rattle.benchfile.specs.Calls.{events_from, write_answer, write_says, write_short, write_leaves, WritePromise}
+use Rattle.benchfile.specs.declared.Content.{Content}
 
 -- ---- lines with their LFs
 
@@ -23,33 +29,40 @@ ended_append (x ∷ xs) ys = rw (ended_append xs ys) (sym (append_assoc x (10 �
 
 -- ---- one line after the others
 
-module _ {list mid left : List ℕ} {at place next : ℕ} where
+module _ {a b c : Output ℕ} where
   -- the line of one thing more
-  pub written-line : {A : Type 0} (f : A → List ℕ) (xs : List A) (x : A)
-      → Written (ended (map f xs)) at list place mid → Written (f x ++ 10 ∷ []) place mid next left
-      → Written (ended (map f (xs ++ x ∷ []))) at list next left
+  pub writes-line : {A : Type 0} (f : A → List ℕ) (xs : List A) (x : A)
+      → Writes (ended (map f xs)) a b → Writes (f x ++ 10 ∷ []) b c → Writes (ended (map f (xs ++ x ∷ []))) a c
   unfolding ended
-  written-line f xs x v w = rw (map-append f xs (x ∷ []), ended_append (map f xs) (f x ∷ [])) (written_append v w)
+  writes-line f xs x v w = rw (map-append f xs (x ∷ []), ended_append (map f xs) (f x ∷ [])) (writes_append v w)
 
   -- the line of the next of the first so many
-  pub written-turn : (f : ℕ → List ℕ) (xs : List ℕ) (i : ℕ) → i < length xs
-      → Written (ended (map f (take i xs))) at list place mid → Written (f (get_or xs i 0) ++ 10 ∷ []) place mid next left
-      → Written (ended (map f (take (i + 1) xs))) at list next left
-  written-turn f xs i h v w = rw (add-one i, take-suc xs i 0 h) (written-line f (take i xs) (get_or xs i 0) v w)
+  pub writes-turn : (f : ℕ → List ℕ) (xs : List ℕ) (i : ℕ) → i < length xs
+      → Writes (ended (map f (take i xs))) a b → Writes (f (get_or xs i 0) ++ 10 ∷ []) b c
+      → Writes (ended (map f (take (i + 1) xs))) a c
+  writes-turn f xs i h v w = rw (add-one i, take-suc xs i 0 h) (writes-line f (take i xs) (get_or xs i 0) v w)
 
 -- ---- a file
 
-pub written-file : (F : File) {list l₁ l₂ l₃ l₄ left : List ℕ} {at a b c d place : ℕ}
-    → Written (count_line units_key F.units ++ 10 ∷ []) at list a l₁
-    → Written (count_line groups_key (length F.groups) ++ 10 ∷ []) a l₁ b l₂
-    → Written (ended (map group_line F.groups)) b l₂ c l₃
-    → Written (parents_line F.parents ++ 10 ∷ []) c l₃ d l₄
-    → Written (ended (map event_line F.events)) d l₄ place left
-    → Written (text_of F) at list place left
+pub writes-file : (F : File) {a b c d e f : Output ℕ}
+    → Writes (count_line units_key F.units ++ 10 ∷ []) a b
+    → Writes (count_line groups_key (length F.groups) ++ 10 ∷ []) b c
+    → Writes (ended (map group_line F.groups)) c d
+    → Writes (parents_line F.parents ++ 10 ∷ []) d e
+    → Writes (ended (map event_line F.events)) e f
+    → Writes (text_of F) a f
 unfolding text_of lines_of ended
-written-file F u g gs p es =
+writes-file F u g gs p es =
     rw (ended_append (map group_line F.groups) (parents_line F.parents ∷ map event_line F.events))
-    (simp append_assoc at (written_append u (written_append g (written_append gs (written_append p es)))))
+    (simp append_assoc at (writes_append u (writes_append g (writes_append gs (writes_append p es)))))
+
+-- of n places at most n count
+pub take_places : (l : List ℕ) (n k : ℕ) {m : ℕ} → length l ≡ n → m ≡ min k n
+    → (take m l ≡ take k l) × (m ≡ length (take k l))
+take_places l n k {m} e h = by_cases (dec_lt k n)
+    (λ b. let s : m ≡ k = omega (arith, h) in (ap (λ (i : ℕ). take i l) s, simp length-take (omega arith)))
+    (λ b. let s : m ≡ n = omega (arith, h) in
+    (take_all m l (omega arith) ∙ sym (take_all k l (omega arith)), simp length-take (omega arith)))
 
 -- ---- the events of a list of numbers
 
@@ -112,3 +125,13 @@ written-part {t} out k h w =
           ∙ ap (λ (l : List ℕ). take k t ++ l) (sym (drop-append-le n (take k out) (drop k out) fits)
           ∙ ap (drop n) (take-append-drop k out)),
     )
+
+-- ---- a list is too short
+
+pub write_refused : (c : Content) (events out : List ℕ) → (length events < 9000) ⊎ ((9000 ≤ length events) × (length out < 32768))
+    → WritePromise c events out (Err (record {})) out
+unfolding write_answer write_says write_short write_leaves
+write_refused c events out (inl h) = let short = lt-ltb _ _ h in record { answers = simp short; leaves = simp short }
+write_refused c events out (inr h) =
+    let long = le-ltb _ _ h.0 in
+    let short = lt-ltb _ _ h.1 in record { answers = simp (long, short); leaves = simp (long, short) }

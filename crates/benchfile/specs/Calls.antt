@@ -1,16 +1,15 @@
 -- Rules of the calls `read` and `write`: what they answer, and what they leave in the lent lists, for every input. Definitions only.
 use Rattle.std.specs.Prelude.{ℕ, zero, suc, ◌+◌, ◌*◌, ◌≡◌, Bool, true, false, ◌||◌, List, [], ◌∷◌, ◌++◌}
-use Rattle.std.specs.Prelude.{length, get_or, take, drop, ltb}
+use Rattle.std.specs.Prelude.{length, get_or, take, drop, ltb, Result, Ok, Err}
 use Rattle.layout.specs.Tables.{tabulate}
 use Rattle.lines.specs.Lines.{Event, event_numbers, event_of, is_build, parents_table, parents_said}
+use Rattle.lines.specs.Fields.{fault_number}
 use Rattle.benchfile.specs.File.{File, Outcome, Refused, Good, read_file, text_of}
 use Rattle.benchfile.specs.declared.Content.{Content}
-use Rattle.benchfile.specs.declared.ReadAnswer.{ReadAnswer}
-use Rattle.benchfile.specs.declared.ReadReply.{ReadReply}
-use Rattle.benchfile.specs.declared.ReadReply.TheVariants.{Read, ListTooShort as ReadTooShort, FileTooLong, NoLine, BadValue}
-use Rattle.benchfile.specs.declared.ReadReply.TheVariants.{BadCount, NoSuchUnit, NotRising, WrongLength, TooManyEvents}
-use Rattle.benchfile.specs.declared.WriteReply.{WriteReply}
-use Rattle.benchfile.specs.declared.WriteReply.TheVariants.{Wrote, ListTooShort as WriteTooShort}
+use Rattle.benchfile.specs.declared.ReadFile.{ReadFile}
+use Rattle.benchfile.specs.declared.ReadRefusal.{ReadRefusal}
+use Rattle.benchfile.specs.declared.ReadRefusal.TheVariants.{ListTooShort as ReadTooShort, FileTooLong, Faulty}
+use Rattle.benchfile.specs.declared.ListTooShort.{ListTooShort}
 
 -- ---- answers
 
@@ -22,22 +21,23 @@ pub data Answer : Type 0 where
   -- a file was written, of so many bytes
   WroteBytes : ℕ → Answer
 
+-- what `read` and `write` answer
+abbrev pub ReadReply : Type 0
+ReadReply = Result ReadFile ReadRefusal
+
+abbrev pub WriteReply : Type 0
+WriteReply = Result ℕ ListTooShort
+
 -- document 01's number and the values of each case; 3 to 9 carry the line, 2 line 0
 unfoldable pub read_answer : ReadReply → Answer
-read_answer (Read n line) = ReadNumbers n line
-read_answer ReadTooShort = TurnedAway (1 ∷ [])
-read_answer FileTooLong = TurnedAway (2 ∷ 0 ∷ [])
-read_answer (NoLine k) = TurnedAway (3 ∷ k ∷ [])
-read_answer (BadValue k) = TurnedAway (4 ∷ k ∷ [])
-read_answer (BadCount k) = TurnedAway (5 ∷ k ∷ [])
-read_answer (NoSuchUnit k) = TurnedAway (6 ∷ k ∷ [])
-read_answer (NotRising k) = TurnedAway (7 ∷ k ∷ [])
-read_answer (WrongLength k) = TurnedAway (8 ∷ k ∷ [])
-read_answer (TooManyEvents k) = TurnedAway (9 ∷ k ∷ [])
+read_answer (Ok r) = ReadNumbers r.numbers r.line
+read_answer (Err ReadTooShort) = TurnedAway (1 ∷ [])
+read_answer (Err FileTooLong) = TurnedAway (2 ∷ 0 ∷ [])
+read_answer (Err (Faulty e)) = TurnedAway (fault_number e.fault ∷ e.line ∷ [])
 
 unfoldable pub write_answer : WriteReply → Answer
-write_answer (Wrote n) = WroteBytes n
-write_answer WriteTooShort = TurnedAway (1 ∷ [])
+write_answer (Ok n) = WroteBytes n
+write_answer (Err e) = TurnedAway (1 ∷ [])
 
 -- ---- read
 
@@ -61,6 +61,11 @@ content_of F = record {
 unfoldable pub no_content : Content
 no_content = record { units = 0; count = 0; groups = tabulate 24 (λ i. 0); build = false; parents = tabulate 32 (λ u. 255); events = 0 }
 
+-- the content that `read` answers; `no_content` where it answers none
+unfoldable pub content_read : ReadReply → Content
+content_read (Ok r) = r.content
+content_read (Err e) = no_content
+
 unfoldable pub read_says : Outcome → Answer
 read_says (Refused refusal) = TurnedAway refusal
 read_says (Good F) = ReadNumbers (3 * length F.events) (3 + length F.groups)
@@ -75,9 +80,9 @@ read_leaves (Refused refusal) events = events
 read_leaves (Good F) events = numbers_of F.events ++ drop (3 * length F.events) events
 
 -- `read` was given a file and a list for the events; it answered r, and the list is left so
-pub record ReadPromise (file events : List ℕ) (r : ReadAnswer) (left : List ℕ) : Type 0 where
-  pub answers : read_answer r.reply ≡ read_says (read_file (length events) file)
-  pub content : r.content ≡ read_content (read_file (length events) file)
+pub record ReadPromise (file events : List ℕ) (r : ReadReply) (left : List ℕ) : Type 0 where
+  pub answers : read_answer r ≡ read_says (read_file (length events) file)
+  pub content : content_read r ≡ read_content (read_file (length events) file)
   pub leaves : left ≡ read_leaves (read_file (length events) file) events
 
 -- ---- write

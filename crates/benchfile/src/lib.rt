@@ -5,8 +5,12 @@ mod events;
 mod heading;
 mod writing;
 
-ghost use Rattle.std.specs.Prelude.{◌≡◌, [], ◌∷◌, ◌≤◌};
-ghost use Rattle.benchfile.specs.Calls.{read_answer, TurnedAway, no_content, ReadPromise, WritePromise};
+ghost use Rattle.std.specs.Prelude.{◌≡◌, Ok, Err, MatchResult};
+ghost use Rattle.benchfile.specs.Calls.{ReadPromise, WritePromise};
+ghost use Rattle.benchfile.specs.Steps.{AtLine};
+ghost use Rattle.benchfile.specs.declared.ReadRefusal.TheVariants.{Faulty};
+
+pub use lines::Fault;
 
 // What a file says beside its events: units; groups, of whose places the first `count` count; `build`, or the 32 parents; how many events.
 #[derive(Clone, Copy)]
@@ -14,104 +18,88 @@ pub struct Content {
     pub units: u8,
     pub count: u8,
     pub groups: [u32; 24],
+    // kept apart from the parents, 255 for `build`: the field `undrawn` of `WellFormed` speaks of both
     pub build: bool,
     pub parents: [u8; 32],
     pub events: u16,
 }
 
-// What `read` says of a file; `read_answer` of specs/Calls.antt gives document 01's number and the values of each case. A file that was
-// read: how many numbers were written, and the line of `parents=`. Else the line of the fault.
+// A file that was read: its content, how many numbers were written for its events, and the line of `parents=`.
 #[derive(Clone, Copy)]
-pub enum ReadReply {
-    Read(usize, usize),
+pub struct ReadFile {
+    pub content: Content,
+    pub numbers: usize,
+    pub line: usize,
+}
+
+// A fault, and its line.
+#[derive(Clone, Copy, Debug, PartialEq, Eq)]
+pub struct FaultyLine {
+    pub fault: Fault,
+    pub line: usize,
+}
+
+// Why a file is turned away; `read_answer` of specs/Calls.antt gives document 01's number and the values of each case.
+#[derive(Clone, Copy, Debug, PartialEq, Eq)]
+pub enum ReadRefusal {
     ListTooShort,
     FileTooLong,
-    NoLine(usize),
-    BadValue(usize),
-    BadCount(usize),
-    NoSuchUnit(usize),
-    NotRising(usize),
-    WrongLength(usize),
-    TooManyEvents(usize),
+    Faulty(FaultyLine),
 }
 
-// The reply and, where the file was read, its content.
-#[derive(Clone, Copy)]
-pub struct ReadAnswer {
-    pub reply: ReadReply,
-    pub content: Content,
-}
+impl From<FaultyLine> for ReadRefusal {
+    ghost from_gives = { λ e r. r ≡ Faulty e };
 
-// What `write` says: how many bytes were written.
-#[derive(Clone, Copy)]
-pub enum WriteReply {
-    Wrote(usize),
-    ListTooShort,
-}
-
-// The reply of a fault, from 3 to 9, in a line.
-fn fault_reply(fault: u8, line: usize) -> ReadReply
-    ensures { (3 ≤ fault) → (fault ≤ 9) → read_answer result ≡ TurnedAway (fault ∷ line ∷ []) }
-{
-    match fault {
-        4 => ReadReply::BadValue(line),
-        5 => ReadReply::BadCount(line),
-        6 => ReadReply::NoSuchUnit(line),
-        7 => ReadReply::NotRising(line),
-        8 => ReadReply::WrongLength(line),
-        9 => ReadReply::TooManyEvents(line),
-        _ => ReadReply::NoLine(line),
+    fn from(e: FaultyLine) -> ReadRefusal {
+        ReadRefusal::Faulty(e)
     }
 }
 
-// A file that is turned away.
-fn turned_away(reply: ReadReply) -> ReadAnswer
-    ensures { (result.reply ≡ reply) × (result.content ≡ no_content) }
+// The one refusal of a call that writes to a lent list: that is too short. `write_answer` of specs/Calls.antt gives document 01's number.
+#[derive(Clone, Copy, Debug, PartialEq, Eq)]
+pub struct ListTooShort;
+
+// A file has at most so many bytes.
+const MOST_BYTES: usize = 32768;
+
+// What a line reader answers, with the line beside a fault.
+fn at_line<T>(line: usize, answer: Result<T, Fault>) -> Result<T, FaultyLine>
+    ensures { AtLine line answer result }
 {
-    ReadAnswer {
-        reply,
-        content: heading::no_content(),
-    }
+    answer.map_err(|fault| FaultyLine { fault, line })
 }
 
 // Reads a file. Its events go to the front of a list of at least 9,000 numbers, three for each: of a send source+1, group and word, of an
 // arrival 0, hop and 0. The rest of the list stays, and all of it where the file is turned away.
-pub fn read(file: &[u8], list: &mut [u32]) -> ReadAnswer
+pub fn read(file: &[u8], list: &mut [u32]) -> Result<ReadFile, ReadRefusal>
     ensures { ReadPromise file.now list.old result list.new }
 {
     if list.len() < 9000 {
-        return turned_away(ReadReply::ListTooShort);
+        return Err(ReadRefusal::ListTooShort);
     }
-    if 32768 < file.len() {
-        return turned_away(ReadReply::FileTooLong);
+    if MOST_BYTES < file.len() {
+        return Err(ReadRefusal::FileTooLong);
     }
-    let head = heading::read_heading(file);
-    if head.fault != 0 {
-        return turned_away(fault_reply(head.fault, head.line));
-    }
-    let at = head.at;
-    let mut kept = [0u32; 9000];
-    let tally = events::store(&file[at..], &mut kept, list);
-    if tally.fault != 0 {
-        return turned_away(fault_reply(tally.fault, head.line + tally.count as usize));
-    }
-    let content = heading::with_events(head.content, tally.count);
-    ReadAnswer {
-        reply: ReadReply::Read(3 * tally.count as usize, head.line - 1),
-        content,
-    }
+    let head = heading::read_heading(file)?;
+    let line = 3 + head.content.count;
+    let events = events::store(head.rest, line + 1, list)?;
+    Ok(ReadFile {
+        content: Content {
+            events,
+            ..head.content
+        },
+        numbers: 3 * events as usize,
+        line: line as usize,
+    })
 }
 
 // Writes a file to the front of a list of at least 32,768 bytes; the rest of the list stays. The events are those that `read` left.
-pub fn write(content: Content, list: &[u32], out: &mut [u8]) -> WriteReply
+pub fn write(content: Content, list: &[u32], out: &mut [u8]) -> Result<usize, ListTooShort>
     ensures { WritePromise content list.now out.old result out.new }
 {
-    if list.len() < 9000 {
-        return WriteReply::ListTooShort;
+    if list.len() < 9000 || out.len() < MOST_BYTES {
+        return Err(ListTooShort);
     }
-    if out.len() < 32768 {
-        return WriteReply::ListTooShort;
-    }
-    let bytes = writing::put_file(content, &list[..9000], &mut out[..32768]);
-    WriteReply::Wrote(bytes)
+    let bytes = writing::put_file(content, &list[..9000], &mut out[..MOST_BYTES]);
+    Ok(bytes)
 }

@@ -3,59 +3,38 @@
 // The first argument names one of the two; with none, or another word, both are run.
 #![tactic(auto)]
 
-use benchfile::{ReadReply, WriteReply};
+use benchfile::Content;
 use std::env::Env;
 use std::io;
 use std::io::Read;
 
-// How many numbers a reply says were written.
-fn numbers(reply: ReadReply) -> u64 {
-    if let ReadReply::Read(count, _) = reply {
-        return count as u64;
-    }
-    0
-}
+// What is written where the file is refused.
+const NOTHING: Content = Content {
+    units: 0,
+    count: 0,
+    groups: [0; 24],
+    build: false,
+    parents: [255; 32],
+    events: 0,
+};
 
-// How many bytes a reply says were written.
-fn bytes(reply: WriteReply) -> u64 {
-    if let WriteReply::Wrote(count) = reply {
-        return count as u64;
-    }
-    0
-}
-
-// A sum that stops at a limit.
-fn plus(a: u64, b: u64) -> u64 {
-    if a < 1000000000 {
-        if b < 1000000000 {
-            return a + b;
-        }
-    }
-    a
-}
-
-// Reads the file so many times; the numbers written in all.
+// Reads the file so many times; the numbers written in all, none where it is refused.
 fn reads(file: &[u8], list: &mut [u32], times: usize) -> u64 {
     let mut sum: u64 = 0;
-    let mut i = 0;
-    while i < times {
-        let answer = benchfile::read(file, list);
-        let reply = answer.reply;
-        sum = plus(sum, numbers(reply));
-        i += 1;
+    for _ in 0..times {
+        let numbers = benchfile::read(file, list).map_or(0, |read| read.numbers);
+        sum = sum.saturating_add(numbers as u64);
     }
     sum
 }
 
 // Reads the file, and writes it so many times; the bytes written in all.
 fn writes(file: &[u8], list: &mut [u32], out: &mut [u8], times: usize) -> u64 {
-    let answer = benchfile::read(file, list);
+    let content = benchfile::read(file, list).map_or(NOTHING, |read| read.content);
     let mut sum: u64 = 0;
-    let mut i = 0;
-    while i < times {
-        let content = answer.content;
-        sum = plus(sum, bytes(benchfile::write(content, list, out)));
-        i += 1;
+    for _ in 0..times {
+        let bytes = benchfile::write(content, list, out).unwrap_or(0);
+        sum = sum.saturating_add(bytes as u64);
     }
     sum
 }

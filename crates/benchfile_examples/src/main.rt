@@ -2,79 +2,63 @@
 // back.
 #![tactic(auto)]
 
-use benchfile::{Content, ReadAnswer, ReadReply, WriteReply};
+use benchfile::{Content, Fault, ListTooShort, ReadFile, ReadRefusal};
 use std::io;
-use text::writing::put_text;
-
-fn print_two(rt: &impl Print, word: &str, a: usize, b: usize) -> io::Result<()> {
-    print!(rt; "{word}{a},{b}")
-}
+use text::writing::put_all;
 
 fn refused(rt: &impl Print, number: usize, line: usize) -> io::Result<()> {
-    print_two(rt, " refused=", number, line)
+    print!(rt; " refused={number},{line}")
 }
 
-fn print_reply(rt: &impl Print, reply: ReadReply) -> io::Result<()> {
-    match reply {
-        ReadReply::Read(numbers, line) => print_two(rt, " numbers,parents=", numbers, line),
-        ReadReply::ListTooShort => rt.print(" refused=1"),
-        ReadReply::FileTooLong => refused(rt, 2, 0),
-        ReadReply::NoLine(line) => refused(rt, 3, line),
-        ReadReply::BadValue(line) => refused(rt, 4, line),
-        ReadReply::BadCount(line) => refused(rt, 5, line),
-        ReadReply::NoSuchUnit(line) => refused(rt, 6, line),
-        ReadReply::NotRising(line) => refused(rt, 7, line),
-        ReadReply::WrongLength(line) => refused(rt, 8, line),
-        ReadReply::TooManyEvents(line) => refused(rt, 9, line),
+// Document 01's number of a fault.
+fn number_of(fault: Fault) -> usize {
+    match fault {
+        Fault::NoLine => 3,
+        Fault::BadValue => 4,
+        Fault::BadCount => 5,
+        Fault::NoSuchUnit => 6,
+        Fault::NotRising => 7,
+        Fault::WrongLength => 8,
+        Fault::TooManyEvents => 9,
+    }
+}
+
+fn print_refusal(rt: &impl Print, refusal: ReadRefusal) -> io::Result<()> {
+    match refusal {
+        ReadRefusal::ListTooShort => rt.print(" refused=1"),
+        ReadRefusal::FileTooLong => refused(rt, 2, 0),
+        ReadRefusal::Faulty(e) => refused(rt, number_of(e.fault), e.line),
     }
 }
 
 // Whether some number of the list is not 7, which all were before.
 fn changed(list: &[u32]) -> bool {
-    let mut at = 0;
-    while at < list.len() {
-        if list[at] != 7 {
-            return true;
-        }
-        at += 1;
-    }
-    false
+    list.iter().any(|number| *number != 7)
 }
 
 // Whether the list begins with the file and goes on with zeros.
 fn holds(out: &[u8], file: &[u8]) -> bool {
-    if out.len() < file.len() {
-        return false;
+    match out.strip_prefix(file) {
+        Some(rest) => rest.iter().all(|byte| *byte == 0),
+        None => false,
     }
-    if &out[..file.len()] != file {
-        return false;
-    }
-    let mut at = file.len();
-    while at < out.len() {
-        if out[at] != 0 {
-            return false;
-        }
-        at += 1;
-    }
-    true
 }
 
 // How many bytes were written, and whether they are the file's.
 fn print_same(rt: &impl Print, bytes: usize, same: bool) -> io::Result<()> {
-    print!(rt; " bytes={bytes}")?;
-    if same {
-        rt.print(" the same")
-    } else {
-        rt.print(" DIFFERENT")
-    }
+    let word = if same { "the same" } else { "DIFFERENT" };
+    print!(rt; " bytes={bytes} {word}")
 }
 
 // Writes to so many bytes of a list, or to all where it has fewer.
-fn write_part(content: Content, list: &[u32], out: &mut [u8], bytes: usize) -> WriteReply {
-    if out.len() < bytes {
-        return benchfile::write(content, list, out);
-    }
-    benchfile::write(content, list, &mut out[..bytes])
+fn write_part(
+    content: Content,
+    list: &[u32],
+    out: &mut [u8],
+    bytes: usize,
+) -> Result<usize, ListTooShort> {
+    let end = out.len().min(bytes);
+    benchfile::write(content, list, &mut out[..end])
 }
 
 // Writes a content to a list of a length, and says whether the file came back.
@@ -86,33 +70,33 @@ fn print_written(
     bytes: usize,
 ) -> io::Result<()> {
     let mut out = [0u8; 40000];
-    let reply = write_part(content, list, &mut out, bytes);
-    match reply {
-        WriteReply::Wrote(count) => print_same(rt, count, holds(&out, file)),
-        WriteReply::ListTooShort => rt.print(" write refused=1"),
+    match write_part(content, list, &mut out, bytes) {
+        Ok(count) => print_same(rt, count, holds(&out, file)),
+        Err(ListTooShort) => rt.print(" write refused=1"),
     }
 }
 
 // Reads to so many numbers of a list, or to all where it has fewer.
-fn read_part(file: &[u8], list: &mut [u32], numbers: usize) -> ReadAnswer {
-    if list.len() < numbers {
-        return benchfile::read(file, list);
-    }
-    benchfile::read(file, &mut list[..numbers])
+fn read_part(file: &[u8], list: &mut [u32], numbers: usize) -> Result<ReadFile, ReadRefusal> {
+    let end = list.len().min(numbers);
+    benchfile::read(file, &mut list[..end])
 }
 
 // One line: the name, what `read` answers with a list of a length, and what `write` gives, or whether a refused call changed the list.
 fn tried(rt: &impl Print, name: &str, file: &[u8], numbers: usize, bytes: usize) -> io::Result<()> {
     let mut list = [7u32; 9100];
-    let answer = read_part(file, &mut list, numbers);
-    let reply = answer.reply;
-    let content = answer.content;
     rt.print(name)?;
-    print_reply(rt, reply)?;
-    if let ReadReply::Read(_, _) = reply {
-        print_written(rt, content, &list, file, bytes)?;
-    } else if changed(&list) {
-        rt.print(" CHANGED")?;
+    match read_part(file, &mut list, numbers) {
+        Ok(read) => {
+            print!(rt; " numbers,parents={},{}", read.numbers, read.line)?;
+            print_written(rt, read.content, &list, file, bytes)?
+        }
+        Err(refusal) => {
+            print_refusal(rt, refusal)?;
+            if changed(&list) {
+                rt.print(" CHANGED")?
+            }
+        }
     }
     rt.print("\n")
 }
@@ -278,10 +262,8 @@ fn bad_sequences(rt: &impl Print) -> io::Result<()> {
 // So many times a line, from a place on.
 fn repeated(file: &mut [u8], at: usize, line: &[u8], times: usize) -> usize {
     let mut next = at;
-    let mut i = 0;
-    while i < times {
-        next = put_text(file, next, line);
-        i += 1;
+    for _ in 0..times {
+        next = put_all(file, next, line);
     }
     next
 }
@@ -305,10 +287,10 @@ fn events(
     last: &[u8],
 ) -> io::Result<()> {
     let mut file = [0u8; 32800];
-    let start = put_text(&mut file, 0, b"units=1\ngroups=0\nparents=build\n");
+    let start = put_all(&mut file, 0, b"units=1\ngroups=0\nparents=build\n");
     let middle = repeated(&mut file, start, first, many);
     let near = repeated(&mut file, middle, second, few);
-    let end = put_text(&mut file, near, last);
+    let end = put_all(&mut file, near, last);
     start_case(rt, name, &file, end)
 }
 

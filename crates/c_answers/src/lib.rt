@@ -3,13 +3,13 @@
 
 pub mod replies;
 
-ghost use Rattle.forest.specs.Calls.{refusal as refusal_of};
+ghost use Rattle.forest.specs.Calls.{refusal_numbers};
 ghost use Rattle.std.specs.Prelude.{◌≡◌, [], ◌∷◌};
 ghost use Rattle.c_answers.specs.Answers.{numbers_of, refused_for};
 
-use forest::Verdict;
+use forest::Refusal;
 
-// 0 or the number of a refusal, and two numbers more.
+// 0 or the number of a refusal, and two numbers more: numbers, since the answer goes to C.
 #[derive(Clone, Copy)]
 pub struct Answer {
     pub refusal: u64,
@@ -17,6 +17,8 @@ pub struct Answer {
     pub second: u64,
 }
 
+// An answer of these numbers.
+#[tactic(auto, unfolding(crate::specs::Answers::numbers_of))]
 pub fn told(refusal: u64, first: usize, second: usize) -> Answer
     ensures { numbers_of result ≡ refusal ∷ first ∷ second ∷ [] }
 {
@@ -27,40 +29,18 @@ pub fn told(refusal: u64, first: usize, second: usize) -> Answer
     }
 }
 
-// What a forest is refused for; three zeros for an accepted one.
-pub fn of_verdict(verdict: Verdict) -> Answer
-    ensures { numbers_of result ≡ refused_for (refusal_of verdict) }
-{
-    match verdict {
-        Verdict::Accepted => Answer {
-            refusal: 0,
-            first: 0,
-            second: 0,
-        },
-        Verdict::BadCounts => Answer {
-            refusal: 5,
-            first: 0,
-            second: 0,
-        },
-        Verdict::EmptyGroup => Answer {
-            refusal: 4,
-            first: 0,
-            second: 0,
-        },
-        Verdict::OutsideUnits => Answer {
-            refusal: 6,
-            first: 0,
-            second: 0,
-        },
-        Verdict::OwnAncestor => Answer {
-            refusal: 10,
-            first: 0,
-            second: 0,
-        },
-        Verdict::NoPrimary(group) => Answer {
-            refusal: 11,
-            first: group as u64,
-            second: 0,
-        },
+// What a forest is refused for.
+impl From<Refusal> for Answer {
+    ghost from_gives = { λ refusal answer. numbers_of answer ≡ refused_for (refusal_numbers refusal) };
+
+    #[tactic(auto, unfolding(crate::specs::Answers::refused_for, forest::specs::Calls::refusal_numbers))]
+    fn from(refusal: Refusal) -> Answer {
+        match refusal {
+            Refusal::BadCounts => told(5, 0, 0),
+            Refusal::EmptyGroup => told(4, 0, 0),
+            Refusal::OutsideUnits => told(6, 0, 0),
+            Refusal::OwnAncestor => told(10, 0, 0),
+            Refusal::NoPrimary(group) => told(11, group, 0),
+        }
     }
 }

@@ -1,3 +1,4 @@
+pub mod Lent
 pub mod Puts
 pub mod States
 pub mod Runs

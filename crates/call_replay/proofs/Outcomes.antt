@@ -3,12 +3,12 @@ use mathlib.Core.Path.{◌≡◌, refl, sym, ap, subst, ◌∙◌}
 use mathlib.Core.Bool.{Bool, true, false, ◌||◌, cond}
 use mathlib.Core.Logic.{by_cases}
 use mathlib.Core.List.{List, [], ◌∷◌, ◌++◌, append_assoc}
-use Prim.Native.Nat.{ℕ, ◌+◌, ◌*◌, ◌-◌, ◌/◌, ◌≤◌, min}
+use Prim.Native.Nat.{ℕ, ◌+◌, ◌*◌, ◌/◌, ◌≤◌, min}
 use native.Mathlib.Nat.{min-le_right}
 use native.Mathlib.Decide.{dec_lt}
 use native.Mathlib.Omega.{arith}
 use borrow.Author.Tests.{lt-ltb, ltb-false}
-use lib.ListN.{length, get_or, take, drop, replicate, length-replicate, length-append, length-drop, take-append-drop}
+use lib.ListN.{length, take, drop, replicate, length-replicate, length-append, length-drop, take-append-drop}
 use lib.Seq.{length-take-le}
 use lib.Dec.{ltb}
 use Rattle.sets.proofs.Bools.{clash, or_left, or_right, or_none}
@@ -17,8 +17,9 @@ use Rattle.text.proofs.Written.{written-fits}
 use Rattle.layout.specs.Tables.{tabulate}
 use Rattle.layout.proofs.Tables.{length-tabulate}
 use Rattle.bench_store.specs.Values.{row_in}
-use Rattle.forest.specs.declared.Verdict.{Verdict}
-use Rattle.forest.specs.Calls.{refusal, check_refusal, check_parents}
+use Rattle.forest.specs.declared.Refusal.{Refusal}
+use Rattle.forest.specs.Calls.{refusal_numbers, check_refusal, check_parents}
+use Rattle.forest.proofs.Shared.{numbered}
 use Rattle.model.specs.declared.Hop.{Hop}
 use Rattle.model.specs.Network.{Plan, Network, fresh_on, hops_of, pair_count, pair_taken}
 use Rattle.model.specs.Calls.{run as runCalls, run_from as runCallsFrom, network_of}
@@ -31,11 +32,11 @@ use Rattle.bench_promises.proofs.Reached.{hop-records-length, log-book-length, w
 use Rattle.c_answers.specs.Answers.{numbers_of, refused_for, unless_refused}
 use Rattle.c_answers.specs.declared.Answer.{Answer}
 use Rattle.call_replay.specs.declared.benches.Ended.{Ended}
-use Rattle.call_replay.specs.Rules.{Given, Replied, replied, run_from, run, requests_of, requests, results_short, fresh_short}
+use Rattle.call_replay.specs.Rules.{Given, Replied, replied, run, requests, results_short, fresh_short}
 use Rattle.call_replay.specs.Rules.{forest_refused, refusal_of, plan_of, over, ran, replies_of, state_of, hop_numbers, nines, last_records}
 use Rattle.call_replay.specs.Rules.{bench_numbers, CallsPromise}
 use Rattle.call_replay.specs.Claims.{rows_of, bench_out}
-use Rattle.call_replay.specs.Steps.{begun_with, all_nines, ListRun, lists_short, lent_short}
+use Rattle.call_replay.specs.Steps.{all_nines, ListRun, lists_short, lent_short}
 use Rattle.call_replay.proofs.States.{replaced, At}
 use Rattle.call_replay.proofs.Runs.{requests-length, Finished, calls-run}
 
@@ -94,14 +95,14 @@ module _ (g : Given) (a : Answer) where
         ap (λ (b : Bool). cond b (1 ∷ 1 ∷ []) (forest_refused (Forest g) (fresh_short g))) (results-short ∙ long)
         ∙ ap (λ (x : List ℕ). forest_refused x (fresh_short g)) e
 
-    forest-cases : (l : List ℕ) → Forest g ≡ l → numbers_of a ≡ refused_for l → (a.refusal ≡ 0 → ⊥) → Stays
-    unfolding forest_refused refused_for numbers_of
-    forest-cases [] e told some = absurd (some (ap (λ (x : List ℕ). get_or x 0 0) told))
-    forest-cases (number ∷ values) e told some = refused-for number values (refusal_is (number ∷ values) e) told
-
-    pub forest-refused : (v : Verdict) → refusal v ≡ Forest g → numbers_of a ≡ refused_for (refusal v)
-        → (a.refusal ≡ 0 → ⊥) → Stays
-    forest-refused v same told some = forest-cases (Forest g) refl (told ∙ ap refused_for same) some
+    pub forest-refused : (e : Refusal) → refusal_numbers e ≡ Forest g → numbers_of a ≡ refused_for (refusal_numbers e) → Stays
+    unfolding forest_refused
+    forest-refused e same told = go (refusal_numbers e) refl
+      where
+        go : (l : List ℕ) → refusal_numbers e ≡ l → Stays
+        go [] none = absurd (numbered e none)
+        go (number ∷ values) some =
+            refused-for number values (refusal_is (number ∷ values) (sym same ∙ some)) (told ∙ ap refused_for some)
 
     module _ (accepted : Forest g ≡ []) where
       pub fresh-refused : FreshShort g ≡ true → numbers_of a ≡ 1 ∷ 0 ∷ 0 ∷ [] → Stays
@@ -218,20 +219,19 @@ module _ (g : Given) (accepted : Forest g ≡ []) (lent : FreshShort g ≡ false
     size_is : 6400 + length rest ≡ length g.book
     size_is = omega (arith, length-drop 6400 g.book, book-long)
 
-    F : Finished P planned tail rest (length-replicate 8 nines) (length g.book) size_is g.calls (begun_with g.calls) [] []
-        g.replies
-        end.bench R.runs.progress R.hops-left book-left replies-left
-    unfolding begun_with
-    F = calls-run P planned tail rest (length-replicate 8 nines) (length g.book) size_is [] R.runs.runs begins (omega arith)
+    F : Finished P planned tail rest (length-replicate 8 nines) (length g.book) size_is g.calls [] [] R.before
+        end.bench R.hops-left book-left R.after
+    F = calls-run P planned tail rest (length-replicate 8 nines) (length g.book) size_is [] R.runs begins
+
+    replies-put : Written F.numbers 0 g.replies end.numbers replies-left
+    replies-put = coe 0 1 (i. Written F.numbers (R.starts.0 i) (R.starts.1 i) (R.ends.0 i) (R.ends.1 i)) F.puts.written
 
     abbrev W : Network
     W = after P F.calls
 
     ran-is : ran g ≡ replied F.numbers W
-    unfolding ran run requests begun_with after runCalls runCallsFrom network_of
-    ran-is =
-        let none : 6 * (length g.calls / 6 - length g.calls / 6) ≡ 0 = omega arith in
-        ap (λ (k : ℕ). run_from (requests_of (length g.book) (drop k g.calls)) (replied [] (fresh_on P))) (sym none) ∙ F.is
+    unfolding ran run requests after runCalls runCallsFrom network_of
+    ran-is = F.is
 
     -- what is left where nothing is refused, of the calls run
     left_by : {A : Type 0} (f : Replied → A) (before : A) → refusal_of g ≡ []
@@ -243,7 +243,7 @@ module _ (g : Given) (accepted : Forest g ≡ []) (lent : FreshShort g ≡ false
         → Written (bench_out (lists_of end.bench)) 0 g.bench place bench-left → numbers_of a
         ≡ 0 ∷ length g.calls / 6 ∷ end.numbers ∷ []
         → CallsPromise g a book-left records-left bench-left replies-left
-    unfolding replies_of state_of begun_with over last_records lists_short requests
+    unfolding replies_of state_of over last_records lists_short requests
     all-ran a long puts told =
         let none = unrefused g a long accepted lent in
         let calls : ℕ = length g.calls / 6 in
@@ -268,7 +268,7 @@ module _ (g : Given) (accepted : Forest g ≡ []) (lent : FreshShort g ≡ false
         let out-is : bench_out (lists_of end.bench) ≡ bench_numbers W = ap bench_out F.state.bench ∙ bench-out W in
         let small = F.small in
         let replies_fit : length F.numbers ≤ length g.replies = omega (arith, small, replies-long) in
-        let count-is : end.numbers ≡ length F.numbers = R.runs.ends ∙ (written-fits F.puts replies_fit).0 in
+        let count-is : end.numbers ≡ length F.numbers = (written-fits replies-put replies_fit).0 in
         record {
           answers = told ∙ (λ i. 0 ∷ sym (requests-length (length g.book) g.calls) i ∷ count-is i ∷ [])
               ∙ left_by (λ r. 0 ∷ length (requests g) ∷ length (replies_of r) ∷ []) _ none;
@@ -280,7 +280,7 @@ module _ (g : Given) (accepted : Forest g ≡ []) (lent : FreshShort g ≡ false
           leaves-bench = put-over puts (omega (arith, ap length out-is, bench-length W, bench-long)) ∙ ap
               (λ (l : List ℕ). over l g.bench) out-is
               ∙ left_by (λ r. over (bench_numbers (state_of r)) g.bench) _ none;
-          leaves-replies = put-over F.puts replies_fit ∙ left_by (λ r. over (replies_of r) g.replies) _ none;
+          leaves-replies = put-over replies-put replies_fit ∙ left_by (λ r. over (replies_of r) g.replies) _ none;
         }
 
 -- the forest's parents are those of the check

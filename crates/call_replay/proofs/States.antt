@@ -9,16 +9,18 @@ use native.Mathlib.Omega.{arith}
 use lib.ListN.{length, take, drop, length-append, take-append-drop}
 use lib.Seq.{take-append-le, drop-append-le, take_at, drop_at}
 use borrow.Author.Tests.{lt-ltb}
+use Rattle.std.specs.Prelude.{Bool, Result}
 use Rattle.model.specs.declared.Hop.{Hop}
 use Rattle.model.specs.Network.{Plan, Network}
 use Rattle.model.specs.Rules.{Outcome, answer_of, left_of, refuse, refused, send, arrive}
 use Rattle.model.specs.Calls.{Call, Send, Arrive, call, log, rest as rest_of}
 use Rattle.model.specs.Demand3.{Planned}
 use Rattle.model.proofs.Replies.{rest-answers}
-use Rattle.bench_promises.specs.declared.replies.SendReply.{SendReply}
-use Rattle.bench_promises.specs.declared.replies.ArriveReply.{ArriveReply}
-use Rattle.bench_promises.specs.declared.replies.RestReply.{RestReply}
-use Rattle.bench_promises.specs.declared.replies.LogReply.{LogReply}
+use Rattle.bench_promises.specs.declared.replies.SendRefusal.{SendRefusal}
+use Rattle.bench_promises.specs.declared.replies.ArriveRefusal.{ArriveRefusal}
+use Rattle.bench_promises.specs.declared.replies.Receipt.{Receipt}
+use Rattle.bench_promises.specs.declared.replies.LogRefusal.{LogRefusal}
+use Rattle.bench_promises.specs.declared.replies.ListTooShort.{ListTooShort}
 use Rattle.bench_promises.specs.Replies.{send_answer, arrive_answer, rest_answer, log_answer}
 use Rattle.bench_promises.specs.State.{Bench, hop_records, log_book, bench_of}
 use Rattle.bench_promises.specs.Promises.{after, OfHops, OfBook, handed_back, length_answer, SendPromise, ArrivePromise, RestPromise}
@@ -91,7 +93,8 @@ module _ (P : Plan) (planned : Planned P) where
             whole;
       }
 
-      pub sent-at : {r : SendReply} {b' : Bench} {left : List Hop} (s g w n : ℕ) → SendPromise b s g w (take n hops) r b' left
+      pub sent-at : {r : Result ℕ SendRefusal} {b' : Bench} {left : List Hop} (s g w n : ℕ)
+          → SendPromise b s g w (take n hops) r b' left
           → (c : Call) → c ≡ Send s g w (length (take n hops))
           → (send_answer r ≡ answer_of (call c (after P cs))) × At tail rest (cs ++ c ∷ []) b' (left ++ drop n hops) book
       unfolding refused answer_of left_of
@@ -114,7 +117,7 @@ module _ (P : Plan) (planned : Planned P) where
                 (at.book-is ∙ ap (λ (z : List ℕ). z ++ rest) (sym (send-book s g w W))),
           ))
 
-      pub arrived-at : {r : ArriveReply} {b' : Bench} {left : List Hop} {book-left : List ℕ} (j n m : ℕ)
+      pub arrived-at : {r : Result Receipt ArriveRefusal} {b' : Bench} {left : List Hop} {book-left : List ℕ} (j n m : ℕ)
           → ArrivePromise b j (take n hops) (take m book) r b' left book-left → (c : Call) → c ≡ Arrive j (length (take n hops))
           (length (take m book))
           → (arrive_answer r ≡ answer_of (call c (after P cs))) × At tail rest (cs ++ c ∷ []) b' (left ++ drop n hops)
@@ -148,7 +151,7 @@ module _ (P : Plan) (planned : Planned P) where
                 x.numbers),
           )))
 
-      pub rested_at : {r : RestReply} (n : ℕ) → RestPromise b (take n hops) r
+      pub rested_at : {r : Result Bool ListTooShort} (n : ℕ) → RestPromise b (take n hops) r
           → rest_answer r ≡ rest_of (length (take n hops)) (after P cs)
       unfolding rest_of refuse
       rested_at n promise =
@@ -165,7 +168,7 @@ module _ (P : Plan) (planned : Planned P) where
           (λ short. promise.short short ∙ sym (rw (lt-ltb (length (take m book)) 6400 short) refl))
           (λ long. (promise.rule P planned cs at.bench (of_book m (omega (arith, long)))).0)
 
-      pub length_at : {r : LogReply} (u m : ℕ) → LengthPromise b u (take m book) r → log_answer r ≡ length_answer
+      pub length_at : {r : Result ℕ LogRefusal} (u m : ℕ) → LengthPromise b u (take m book) r → log_answer r ≡ length_answer
           (log u (length (take m book)) (after P cs))
       unfolding log refuse length_answer
       length_at u m promise =

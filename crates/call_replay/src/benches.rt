@@ -1,95 +1,107 @@
 // The calls run on hops and book, as lent.
 ghost use Rattle.std.specs.Prelude.{◌≡◌};
-ghost use Rattle.text.specs.Writing.{Written};
+ghost use Rattle.text.specs.Writing.{Writes};
 ghost use Rattle.call_replay.specs.Rules.{hop_numbers};
-ghost use Rattle.call_replay.specs.Steps.{ended_with, CallRun, CallsRun, ListRun};
+ghost use Rattle.call_replay.specs.Steps.{CallRun, CallsFrom, ListRun};
 
-use crate::replies::Done;
-use crate::requests::{Progress, Request};
+use crate::requests::{Request, lent};
 use crate::{Sizes, replies, requests, writing};
-use bench::{Bench, Fresh};
+use bench::Bench;
 use bench_store::Limits;
+use c_answers::replies::Reply;
+use text::writing::Output;
 
-// The bench that a list of calls leaves, and how many numbers their replies have.
+// The bench that calls leave, and how many numbers their replies have.
 #[derive(Clone, Copy)]
 pub struct Ended {
     pub bench: Bench,
     pub numbers: usize,
 }
 
-fn end_of(bench: Bench, p: Progress) -> Ended
-    ensures { result ≡ ended_with bench p }
+// Runs one call, lent the first of the hops and of the book, and puts its reply; answers the bench that it leaves.
+fn run_call(
+    bench: Bench,
+    request: Request,
+    hops: &mut [model::Hop],
+    book: &mut [u16],
+    output: &mut Output<u16>,
+) -> Bench
+    ensures { CallRun bench hops.old book.old output.old request result hops.new book.new output.new }
 {
-    Ended {
-        bench,
-        numbers: p.at,
+    match request {
+        Request::Send {
+            source,
+            group,
+            word,
+            hops_asked,
+        } => {
+            let n = lent(hops_asked, hops.len());
+            let sent = bench.send(source, group, word, &mut hops[..n]);
+            replies::put_three(output, Reply::from(sent.reply));
+            sent.bench
+        }
+        Request::Arrive {
+            hop,
+            hops_asked,
+            book_asked,
+        } => {
+            let n = lent(hops_asked, hops.len());
+            let m = lent(book_asked, book.len());
+            let arrived = bench.arrive(hop, &mut hops[..n], &mut book[..m]);
+            replies::put_three(output, Reply::from(arrived.reply));
+            arrived.bench
+        }
+        Request::Log { unit, book_asked } => {
+            let m = lent(book_asked, book.len());
+            replies::put_log(output, bench, unit, &book[..m]);
+            bench
+        }
+        Request::Length { unit, book_asked } => {
+            let m = lent(book_asked, book.len());
+            replies::put_length(output, bench, unit, &book[..m]);
+            bench
+        }
+        Request::Rest { hops_asked } => {
+            let n = lent(hops_asked, hops.len());
+            let rest = bench.rest(&hops[..n]);
+            replies::put_three(output, Reply::from(rest));
+            bench
+        }
     }
 }
 
-fn bench_made(fresh: Fresh) -> Bench
-    ensures { result ≡ fresh.bench }
-{
-    fresh.bench
-}
-
-// Runs one call, lent the first of the hops and of the book. One on a log is run where its reply is put: here it only asks for rest.
-fn run_call(bench: Bench, q: Request, hops: &mut [model::Hop], book: &mut [u16]) -> Done
-    ensures { CallRun bench q hops.old book.old result hops.new book.new }
-{
-    let n = requests::hops_lent(q, hops.len());
-    let m = requests::book_lent(q, book.len());
-    let a = requests::first(q);
-    if requests::is_send(q) {
-        let b = requests::second(q);
-        let c = requests::third(q);
-        let sent = bench.send(a, b, c, &mut hops[..n]);
-        return replies::after_send(sent);
-    }
-    if requests::is_arrive(q) {
-        let arrived = bench.arrive(a, &mut hops[..n], &mut book[..m]);
-        return replies::after_arrive(arrived);
-    }
-    let rest = bench.rest(&hops[..n]);
-    replies::after_rest(bench, rest)
-}
-
-// Runs the calls of a list, and puts their replies.
+// Runs the calls of a list, and puts their replies; answers the bench that they leave.
 fn run_calls(
     start: Bench,
     calls: &[u32],
     hops: &mut [model::Hop],
     book: &mut [u16],
-    out: &mut [u16],
-) -> Ended
-    ensures { CallsRun start calls.now hops.old book.old out.old
-        result hops.new book.new out.new }
+    output: &mut Output<u16>,
+) -> Bench
+    ensures same_list { output.new.out.ghost_name ≡ output.old.out.ghost_name }
+    ensures run { CallsFrom calls.now start hops.old book.old output.old
+        result hops.new book.new output.new }
 {
     let mut bench = start;
-    let mut p = requests::begun(calls);
-    while requests::is_going(p) {
-        let q = requests::request_at(p, calls);
-        let done = run_call(bench, q, hops, book);
-        p = replies::put_reply(done, q, book, out, p);
-        bench = replies::bench_of(done);
+    for call in calls.chunks_exact(Sizes::CALL) {
+        let request = requests::request_in(call);
+        bench = run_call(bench, request, hops, book, output);
     }
-    end_of(bench, p)
+    bench
 }
 
-// Puts hop records.
-fn put_hops(hops: &[model::Hop], out: &mut [u16]) -> usize
-    ensures { Written (hop_numbers hops.now) 0 out.old result out.new }
+// Puts hop records, each read through `hops::read` as every record is (document 01).
+fn put_hops(output: &mut Output<u16>, hops: &[model::Hop])
+    ensures { Writes (hop_numbers hops.now) output.old output.new }
 {
-    let mut at = 0;
-    let mut i = 0;
-    while i < hops.len() {
+    for i in 0..hops.len() {
         let hop = hops::read(hops, i);
-        at = writing::put_hop(out, at, hop);
-        i = i + 1;
+        writing::put_hop(output, hop);
     }
-    at
 }
 
 // Makes a fresh bench, lent the first of the hop records and of the book, runs the calls of a list, and puts their replies and the records.
+// Its parameters are those of `run`.
 pub fn run_list(
     units: usize,
     groups: [u32; Limits::GROUPS],
@@ -113,8 +125,8 @@ pub fn run_list(
         message: 9,
         state: 9,
     }; Sizes::RECORDS];
-    let n = requests::least(fresh_hops, Sizes::RECORDS);
-    let m = requests::least(fresh_book, book.len());
+    let n = fresh_hops.min(Sizes::RECORDS);
+    let m = fresh_book.min(book.len());
     let fresh = Bench::fresh(
         units,
         groups,
@@ -123,8 +135,15 @@ pub fn run_list(
         &mut hops[..n],
         &mut book[..m],
     );
-    let bench = bench_made(fresh);
-    let end = run_calls(bench, calls, &mut hops, book, out);
-    put_hops(&hops, records);
-    end
+    let mut replies = Output { out, at: 0 };
+    let bench = run_calls(fresh.bench, calls, &mut hops, book, &mut replies);
+    let mut left = Output {
+        out: records,
+        at: 0,
+    };
+    put_hops(&mut left, &hops);
+    Ended {
+        bench,
+        numbers: replies.at,
+    }
 }

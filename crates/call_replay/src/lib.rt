@@ -37,29 +37,23 @@ impl Sizes {
 }
 
 // Whether a list for results is too short, of so many calls.
+#[tactic(auto, using(crate::proofs::Puts::divided), unfolding(crate::specs::Steps::lists_short))]
 fn is_short(hops: usize, bench: usize, replies: usize, calls: usize) -> bool
     ensures { result ≡ lists_short hops bench replies calls }
 {
-    if hops < Sizes::HOPS {
-        return true;
-    }
-    if bench < Sizes::BENCH {
-        return true;
-    }
-    replies / Sizes::REPLY < calls
+    hops < Sizes::HOPS || bench < Sizes::BENCH || replies / Sizes::REPLY < calls
 }
 
 // Whether a list lent to the fresh bench is too short.
+#[tactic(auto, unfolding(crate::specs::Steps::lent_short))]
 fn is_fresh_short(hops: usize, numbers: usize, book: usize) -> bool
     ensures { result ≡ lent_short hops numbers book }
 {
-    if requests::least(hops, Sizes::RECORDS) < Limits::HOPS {
-        return true;
-    }
-    requests::least(numbers, book) < Limits::BOOK
+    hops.min(Sizes::RECORDS) < Limits::HOPS || numbers.min(book) < Limits::BOOK
 }
 
-// Makes a fresh bench on a checked forest and runs a list of calls on it.
+// Makes a fresh bench on a checked forest and runs a list of calls on it. Its parameters are those of the C call, in their order: a struct
+// of them would be taken apart again at once.
 pub fn run(
     units: usize,
     groups: [u32; Limits::GROUPS],
@@ -82,16 +76,13 @@ pub fn run(
     if is_short(hops.len(), bench.len(), replies.len(), number) {
         return c_answers::told(1, 1, 0);
     }
-    let forest = forest::check(units, groups, count, parents);
-    let verdict = forest.verdict;
-    let refused = c_answers::of_verdict(verdict);
-    if refused.refusal != 0 {
-        return refused;
-    }
+    let drawn = match forest::check(units, groups, count, parents) {
+        Ok(drawn) => drawn,
+        Err(refusal) => return Answer::from(refusal),
+    };
     if is_fresh_short(fresh_hops, fresh_book, book.len()) {
         return c_answers::told(1, 0, 0);
     }
-    let drawn = forest.parents;
     let end = benches::run_list(
         units, groups, count, drawn, fresh_hops, fresh_book, calls, book, replies, hops,
     );

@@ -17,13 +17,15 @@ use Rattle.sets.proofs.Laws.{member-difference, member-collect, in_below, some-m
 use Rattle.sets.proofs.Laws.{lowest_of_some, lowest-least, collect-below, collect-none}
 use Rattle.layout.proofs.Tables.{get_d_tabulate}
 use Rattle.forest.specs.Forest.{parent, primary, has_primary, own_ancestor, cyclic_units, lacks_primary, without_primary}
-use Rattle.forest.specs.Calls.{refusal, counted_at, counted, drawn, bad_counts, empty_at, empty_groups, outside_at, outside_groups}
+use Rattle.forest.specs.Calls.{refusal, refusal_numbers, counted_at, counted, drawn, bad_counts, empty_at, empty_groups, outside_at}
+use Rattle.forest.specs.Calls.{outside_groups}
 use Rattle.forest.specs.Calls.{outside_parent, outside_parents, refuse, groups_refusal, drawing_refusal, build_refusal, check_refusal}
 use Rattle.forest.specs.Claims.{Acyclic, IsPrimary, CountsWithin, NoneEmpty, MembersWithin, ParentsWithin, SomeEmpty}
 use Rattle.forest.specs.Claims.{OutsideMember, OutsideParent, SelfAncestor, HavePrimaries, FirstWithout}
 use Rattle.forest.specs.Claims.{BuiltExactly, CheckedExactly}
-use Rattle.forest.specs.declared.Verdict.{Verdict}
-use Rattle.forest.specs.declared.Verdict.TheVariants.{Accepted, BadCounts, EmptyGroup, OutsideUnits, OwnAncestor, NoPrimary}
+use Rattle.std.specs.Prelude.{Result, Ok, Err}
+use Rattle.forest.specs.declared.Refusal.{Refusal}
+use Rattle.forest.specs.declared.Refusal.TheVariants.{BadCounts, EmptyGroup, OutsideUnits, OwnAncestor, NoPrimary}
 use Rattle.forest.proofs.Shared.{counted-group}
 use Rattle.forest.proofs.Ancestry.{above-unit, own_ancestor-sound, acyclic_of}
 use Rattle.forest.proofs.Primaries.{primary-is, has-primary}
@@ -51,33 +53,39 @@ unfoldable judged : Bool → Bool → Bool → Bool → Bool → ℕ → List �
 judged a b d e f g =
     refuse a (5 ∷ 0 ∷ []) (refuse b (4 ∷ 0 ∷ []) (refuse d (6 ∷ 0 ∷ []) (refuse e (10 ∷ []) (refuse f (11 ∷ g ∷ []) []))))
 
--- the verdict that a refusal stands for
+-- what a call says: nothing is refused, or what is
+abbrev Verdict : Type 0
+Verdict = Result Unit Refusal
+
+abbrev accepted : Verdict
+accepted = Ok tt
+
+-- the verdict that the numbers of a refusal stand for
 unfoldable verdict : List ℕ → Verdict
-verdict [] = Accepted
-verdict (x ∷ xs) =
-    cond (eqb x 5) BadCounts (cond (eqb x 4) EmptyGroup (cond (eqb x 6) OutsideUnits
-    (cond (eqb x 10) OwnAncestor (NoPrimary (get_or xs 0 0)))))
+verdict [] = accepted
+verdict (x ∷ xs) = Err (cond (eqb x 5) BadCounts (cond (eqb x 4) EmptyGroup (cond (eqb x 6) OutsideUnits
+    (cond (eqb x 10) OwnAncestor (NoPrimary (get_or xs 0 0))))))
 
 verdict_of : (v : Verdict) → verdict (refusal v) ≡ v
-unfolding verdict refusal
-verdict_of Accepted = refl
-verdict_of BadCounts = refl
-verdict_of EmptyGroup = refl
-verdict_of OutsideUnits = refl
-verdict_of OwnAncestor = refl
-verdict_of (NoPrimary g) = refl
+unfolding verdict refusal refusal_numbers
+verdict_of (Ok x) = refl
+verdict_of (Err BadCounts) = refl
+verdict_of (Err EmptyGroup) = refl
+verdict_of (Err OutsideUnits) = refl
+verdict_of (Err OwnAncestor) = refl
+verdict_of (Err (NoPrimary g)) = refl
 
 module _ {B5 G5 B4 G4 B6 G6 B10 G10 G11 : Type 0} {B11 : ℕ → Type 0} {a b d e f : Bool} {g : ℕ} (d5 : Decides Unit a B5 G5)
     (d4 : Decides G5 b B4 G4) (d6 : Decides G4 d B6 G6) (d10 : Decides G6 e B10 G10) (d11 : Decides G10 f ((i : ℕ) × B11 i) G11)
     (only : (i : ℕ) → f ≡ true → B11 i → i ≡ g) where
   -- what a verdict says
   unfoldable Says : Verdict → Type 0
-  Says Accepted = G11
-  Says BadCounts = B5
-  Says EmptyGroup = B4
-  Says OutsideUnits = B6
-  Says OwnAncestor = B10
-  Says (NoPrimary i) = B11 i
+  Says (Ok x) = G11
+  Says (Err BadCounts) = B5
+  Says (Err EmptyGroup) = B4
+  Says (Err OutsideUnits) = B6
+  Says (Err OwnAncestor) = B10
+  Says (Err (NoPrimary i)) = B11 i
 
   past_groups : G6 → judged a b d e f g ≡ refuse e (10 ∷ []) (refuse f (11 ∷ g ∷ []) [])
   unfolding judged refuse
@@ -86,33 +94,33 @@ module _ {B5 G5 B4 G4 B6 G6 B10 G10 G11 : Type 0} {B11 : ℕ → Type 0} {a b d 
       rw (says-good d5 (d4.from-good m4), says-good d4 m4, says-good d6 m)
 
   says-refusal : (v : Verdict) → Says v → judged a b d e f g ≡ refusal v
-  unfolding Says judged refuse refusal
-  says-refusal BadCounts m = rw (says-bad d5 m)
-  says-refusal EmptyGroup m = rw (says-good d5 (d4.from-bad m), says-bad d4 m)
-  says-refusal OutsideUnits m =
+  unfolding Says judged refuse refusal refusal_numbers
+  says-refusal (Err BadCounts) m = rw (says-bad d5 m)
+  says-refusal (Err EmptyGroup) m = rw (says-good d5 (d4.from-bad m), says-bad d4 m)
+  says-refusal (Err OutsideUnits) m =
       let m4 = d6.from-bad m in
       rw (says-good d5 (d4.from-good m4), says-good d4 m4, says-bad d6 m)
-  says-refusal OwnAncestor m = past_groups (d10.from-bad m) ∙ rw (says-bad d10 m)
-  says-refusal (NoPrimary i) m =
+  says-refusal (Err OwnAncestor) m = past_groups (d10.from-bad m) ∙ rw (says-bad d10 m)
+  says-refusal (Err (NoPrimary i)) m =
       let m10 = d11.from-bad (i, m) in
       let t = says-bad d11 (i, m) in
       past_groups (d10.from-good m10) ∙ rw (says-good d10 m10, t) (ap (λ (x : ℕ). 11 ∷ x ∷ []) (sym (only i t m)))
-  says-refusal Accepted m =
+  says-refusal (Ok x) m =
       let m10 = d11.from-good m in
       past_groups (d10.from-good m10) ∙ rw (says-good d10 m10, says-good d11 m)
 
   first_found : (v : Verdict) × Says v
   unfolding Says
   first_found =
-      ⊎_elim (λ t. (BadCounts, d5.found tt t)) (λ t5.
+      ⊎_elim (λ t. (Err BadCounts, d5.found tt t)) (λ t5.
       let m5 = d5.passed tt t5 in
-      ⊎_elim (λ t. (EmptyGroup, d4.found m5 t)) (λ t4.
+      ⊎_elim (λ t. (Err EmptyGroup, d4.found m5 t)) (λ t4.
       let m4 = d4.passed m5 t4 in
-      ⊎_elim (λ t. (OutsideUnits, d6.found m4 t)) (λ t6.
+      ⊎_elim (λ t. (Err OutsideUnits, d6.found m4 t)) (λ t6.
       let m6 = d6.passed m4 t6 in
-      ⊎_elim (λ t. (OwnAncestor, d10.found m6 t)) (λ t10.
+      ⊎_elim (λ t. (Err OwnAncestor, d10.found m6 t)) (λ t10.
       let m10 = d10.passed m6 t10 in
-      ⊎_elim (λ t. let w = d11.found m10 t in (NoPrimary w.0, w.1)) (λ t11. (Accepted, d11.passed m10 t11))
+      ⊎_elim (λ t. let w = d11.found m10 t in (Err (NoPrimary w.0), w.1)) (λ t11. (accepted, d11.passed m10 t11))
       (either f)) (either e)) (either d)) (either b)) (either a)
 
   refusal-says : (v : Verdict) → judged a b d e f g ≡ refusal v → Says v
@@ -391,15 +399,15 @@ module _ (n c : ℕ) (gs ps : List ℕ) where
       either_refuses false b x l = refl
 
   pub checked-exactly : CheckedExactly n c gs ps
-  unfolding Says Eleven refusal
+  unfolding Says Eleven refusal refusal_numbers
   checked-exactly =
       let at = exactly (counts_decided n c) (empty_decided n c gs) (outside_decided n c gs ps) (ancestry_decided n c gs ps)
       primaries_decided named checked-judged in
       record {
-        refused = record { five = at BadCounts; four = at EmptyGroup; six = at OutsideUnits };
-        ten = at OwnAncestor;
-        eleven = λ g. at (NoPrimary g);
-        accepted = at Accepted;
+        refused = record { five = at (Err BadCounts); four = at (Err EmptyGroup); six = at (Err OutsideUnits) };
+        ten = at (Err OwnAncestor);
+        eleven = λ g. at (Err (NoPrimary g));
+        accepted = at accepted;
       }
 
 -- a test that finds nothing
@@ -419,12 +427,12 @@ unfolding build_refusal groups_refusal judged refuse
 built-judged n c gs = refl
 
 pub built-exactly : (n c : ℕ) (gs : List ℕ) → BuiltExactly n c gs
-unfolding Says refusal
+unfolding Says refusal refusal_numbers
 built-exactly n c gs =
     let at = exactly {B11 = λ i. ⊥} (counts_decided n c) (empty_decided n c gs) (members_decided n c gs)
     (nothing_decided (MembersWithin n c gs) ⊥ (λ b. b)) (nothing_decided (MembersWithin n c gs) ((i : ℕ) × ⊥) (λ b. b.1))
     (λ i t. absurd (clash t refl)) (built-judged n c gs) in
     record {
-      refused = record { five = at BadCounts; four = at EmptyGroup; six = at OutsideUnits };
-      unrefused = at Accepted;
+      refused = record { five = at (Err BadCounts); four = at (Err EmptyGroup); six = at (Err OutsideUnits) };
+      unrefused = at accepted;
     }

@@ -2,54 +2,38 @@
 use mathlib.Core.Path.{◌≡◌, refl, sym, ap, subst, ◌∙◌}
 use mathlib.Core.Logic.{by_cases}
 use mathlib.Core.Bool.{Bool, true, false, not, ◌||◌, cond}
-use mathlib.Core.List.{List, [], ◌∷◌}
+use mathlib.Core.List.{List, [], ◌∷◌, ◌++◌}
 use Prim.Native.Nat.{ℕ, zero, suc, ◌-◌, ◌^◌, ◌≤◌, ◌<◌}
 use native.Mathlib.Decide.{dec_lt}
 use native.Mathlib.Omega.{arith}
-use borrow.Author.Tests.{lt-ltb, le-ltb, le-leb, lt-leb, eq-eqb, ne_eqb}
-use lib.Dec.{ltb, leb, eqb, eqb-suc-zero}
-use lib.Count.{count_trailing_zeros, trailing_of_zero}
+use borrow.Author.Tests.{lt-ltb, le-ltb}
+use lib.Dec.{ltb, eqb}
 use lib.Arith.{lt-one}
 use lib.Pow.{pow_pos}
 use lib.Bits.{or_zero_l, or_zero_r}
-use lib.ListN.{length, get_or}
-use Rattle.sets.specs.Sets.{member, union, intersection, difference, including, lowest}
+use lib.ListN.{length, get_or, take, drop, replicate}
+use Rattle.std.proofs.lemmas.List.{length-take-le, length-replicate, length-append, length-drop, get_or_append_left, get_or-append_right}
+use Rattle.std.proofs.lemmas.List.{get_or-take, get_or-replicate}
+use borrow.Rule.Slice.PartMut.{put_mid}
+use Rattle.std.specs.Prelude.{min, Err}
+use Rattle.sets.specs.Sets.{member, union, difference, including}
 use Rattle.sets.proofs.Bools.{cond-true, cond-false}
-use Rattle.sets.proofs.Laws.{union-below, intersection-below, difference_below, including-below}
+use Rattle.sets.proofs.Laws.{union-below, difference_below, including-below}
 use Rattle.sets.proofs.Laws.{member_union, member-including, same-members}
+use Rattle.forest.specs.Forest.{parent, ancestors_within, ancestors}
+use Rattle.forest.specs.Calls.{refusal_numbers, parents_of, counted_at, counted, bad_counts, empty_groups, outside_groups}
+use Rattle.forest.specs.Calls.{refuse, groups_refusal, or_roots}
+use Rattle.forest.specs.declared.Refusal.{Refusal}
+use Rattle.forest.specs.declared.Refusal.TheVariants.{BadCounts, EmptyGroup, OutsideUnits, OwnAncestor, NoPrimary}
 use Rattle.layout.specs.Tables.{tabulate}
-use Rattle.forest.specs.Forest.{parent, ancestors_within, ancestors, primary}
-use Rattle.forest.specs.Calls.{counted_at, counted, bad_counts, empty_groups, outside_groups, refuse, groups_refusal, or_roots}
-use Rattle.layout.proofs.Tables.{get_d_tabulate, same_tables}
+use Rattle.layout.proofs.Tables.{get_d_tabulate, same_tables, tabulated}
 use Rattle.layout.proofs.Loops.{get_d_any}
 use Rattle.forest.proofs.Ancestry.{ancestors-below}
-
--- ---- tests
-
-pub not-ltb : (a b : ℕ) → leb b a ≡ not (ltb a b)
-not-ltb a b = by_cases (dec_lt a b)
-    (λ (h : a < b). lt-leb b a h ∙ ap not (sym (lt-ltb a b h)))
-    (λ (h : a < b → ⊥). let l : b ≤ a = omega arith in le-leb b a l ∙ ap not (sym (le-ltb a b l)))
-
--- what a test against 0 said of a result holds of what the result is
-pub is_zero : {x y : ℕ} → x ≡ y → x ≡ 0 → eqb y 0 ≡ true
-is_zero e h = eq-eqb _ 0 (sym e ∙ h)
-
-pub no_zero : {x y : ℕ} → x ≡ y → (x ≡ 0 → ⊥) → eqb y 0 ≡ false
-no_zero e h = ne_eqb _ 0 (λ z. h (e ∙ z))
 
 -- ---- the empty set
 
 pub no_difference : (t : ℕ) → difference 0 t ≡ 0
 no_difference t = lt-one (difference_below 0 0 t (omega arith))
-
-pub no_intersection : (t : ℕ) → intersection 0 t ≡ 0
-no_intersection t = lt-one (intersection-below 0 0 t (omega arith))
-
--- a group without members has no primary
-pub no_primary : (ps : List ℕ) → primary ps 0 ≡ 32
-unfolding primary lowest
-no_primary ps = ap (count_trailing_zeros 32) (no_intersection _) ∙ trailing_of_zero 32
 
 -- a member may be added to either side of a union
 pub including-passes : (s t u : ℕ) → s < 2 ^ 32 → t < 2 ^ 32 → union s (including t u) ≡ union (including s u) t
@@ -86,46 +70,89 @@ pub climbed_all : {ps : List ℕ} {unit s u left : ℕ} → Climbed ps unit s u 
 unfolding union
 climbed_all {ps} {unit} {s} {u} {left} h e = sym (or_zero_r s) ∙ ap (union s) (sym e) ∙ h.right
 
-pub climbed_turn : {ps : List ℕ} {unit s u left r : ℕ} → Climbed ps unit s u left → 0 < left → u < 32 → u < length ps
-    → r ≡ including s u
-    → Climbed ps unit r (get_or ps u 0) (left - 1)
+pub climbed_turn : {ps : List ℕ} {unit s u left next r : ℕ} → Climbed ps unit s u left → suc next ≡ left
+    → u < 32 → u < length ps → r ≡ including s u
+    → Climbed ps unit r (get_or ps u 0) next
 unfolding ancestors_within parent
-climbed_turn {ps} {unit} {s} {u} {left} {r} h b l m e =
-    let k : suc (left - 1) ≡ left = omega arith in
-    let rest : ℕ = ancestors_within (left - 1) ps (get_or ps u 0) in
+climbed_turn {ps} {unit} {s} {u} {left} {next} {r} h k l m e =
+    let rest : ℕ = ancestors_within next ps (get_or ps u 0) in
     let step : ancestors_within left ps u ≡ including rest u =
     ap (λ (n : ℕ). ancestors_within n ps u) (sym k) ∙ simp (lt-ltb u 32 l, get_d_any ps u 255 0 m) in
     record {
       bounded = subst (λ (x : ℕ). x < 2 ^ 32) (sym e) (including-below s u h.bounded);
       right =
-          ap (λ (x : ℕ). union x rest) e ∙ sym (including-passes s rest u h.bounded (ancestors-below (left - 1) ps (get_or ps u 0)))
+          ap (λ (x : ℕ). union x rest) e ∙ sym (including-passes s rest u h.bounded (ancestors-below next ps (get_or ps u 0)))
           ∙ ap (union s) (sym step) ∙ h.right;
     }
 
 -- ---- refusals
 
--- the forest stays where nothing is refused
-pub roots_or : (l ps : List ℕ) → or_roots l ps ≡ cond (eqb (length l) 0) ps (tabulate 32 (λ u. 255))
-unfolding or_roots
-roots_or [] ps = refl
-roots_or (x ∷ l) ps = sym (cond-false _ _ _ (eqb-suc-zero (length l)))
+-- the parents beside a refusal are those that the rule gives
+pub parents-refused : (e : Refusal) (ps : List ℕ) → parents_of (Err e) ≡ or_roots (refusal_numbers e) ps
+unfolding parents_of or_roots refusal_numbers
+parents-refused BadCounts ps = refl
+parents-refused EmptyGroup ps = refl
+parents-refused OutsideUnits ps = refl
+parents-refused OwnAncestor ps = refl
+parents-refused (NoPrimary g) ps = refl
 
--- the rest counts where the groups are refused for nothing
-pub groups-rest : (n c : ℕ) (gs rest l : List ℕ) → l ≡ groups_refusal n c gs []
-    → groups_refusal n c gs rest ≡ cond (eqb (length l) 0) rest l
-unfolding groups_refusal refuse
-groups-rest n c gs rest l e =
-    go (bad_counts n c) (not (eqb (empty_groups c gs) 0)) (not (eqb (outside_groups n gs) 0))
-    ∙ ap (λ (x : List ℕ). cond (eqb (length x) 0) rest x) (sym e)
+-- a refusal has a number
+pub numbered : (e : Refusal) → refusal_numbers e ≡ [] → ⊥
+unfolding refusal_numbers
+numbered BadCounts h = cc
+numbered EmptyGroup h = cc
+numbered OutsideUnits h = cc
+numbered OwnAncestor h = cc
+numbered (NoPrimary g) h = cc
+
+-- the three tests of the groups, in turn
+unfoldable tested : Bool → Bool → Bool → List ℕ → List ℕ
+tested a b d rest = refuse a (5 ∷ 0 ∷ []) (refuse b (4 ∷ 0 ∷ []) (refuse d (6 ∷ 0 ∷ []) rest))
+
+-- good groups are refused for nothing but what is left
+pub good-groups : (n c : ℕ) (gs rest : List ℕ) → groups_refusal n c gs [] ≡ [] → groups_refusal n c gs rest ≡ rest
+unfolding groups_refusal tested refuse
+good-groups n c gs rest = passed (bad_counts n c) (not (eqb (empty_groups c gs) 0)) (not (eqb (outside_groups n gs) 0))
   where
-    first : Bool → Bool → Bool → List ℕ → List ℕ
-    first a b d r = refuse a (5 ∷ 0 ∷ []) (refuse b (4 ∷ 0 ∷ []) (refuse d (6 ∷ 0 ∷ []) r))
+    passed : (a b d : Bool) → tested a b d [] ≡ [] → tested a b d rest ≡ rest
+    passed true b d h = cc
+    passed false true d h = cc
+    passed false false true h = cc
+    passed false false false h = refl
 
-    go : (a b d : Bool) → first a b d rest ≡ cond (eqb (length (first a b d [])) 0) rest (first a b d [])
-    go true b d = refl
-    go false true d = refl
-    go false false true = refl
-    go false false false = refl
+-- and what bad groups are refused for stands before it
+pub bad-groups : (e : Refusal) (n c : ℕ) (gs rest : List ℕ) → refusal_numbers e ≡ groups_refusal n c gs []
+    → refusal_numbers e ≡ groups_refusal n c gs rest
+unfolding groups_refusal tested refuse
+bad-groups e n c gs rest = stopped (bad_counts n c) (not (eqb (empty_groups c gs) 0)) (not (eqb (outside_groups n gs) 0))
+  where
+    stopped : (a b d : Bool) → refusal_numbers e ≡ tested a b d [] → refusal_numbers e ≡ tested a b d rest
+    stopped true b d h = h
+    stopped false true d h = h
+    stopped false false true h = h
+    stopped false false false h = absurd (numbered e h)
+
+-- ---- tables
+
+-- a table of n entries of which those from c on are overwritten
+pub overwritten : (n a c d e : ℕ) (l ys : List ℕ) → length l ≡ n → a ≡ min c n
+    → ys ≡ replicate (length (take (n - a) (drop a l))) d
+    → put_mid a (n - a) l ys ≡ tabulate n (λ i. cond (ltb i c) (get_or l i e) d)
+overwritten n a c d e l ys long ea ey =
+    let front : length (take a l) ≡ a = length-take-le a l (omega arith) in
+    let back : length (take (n - a) (drop a l)) ≡ n - a = length-take-le (n - a) (drop a l) (omega (arith, length-drop a l)) in
+    let part : length ys ≡ n - a = ap length ey ∙ length-replicate _ d ∙ back in
+    let tail = drop (n - a) (drop a l) in
+    tabulated n _ _ e (simp (length-append, length-drop, front, part, long) (omega arith))
+    (λ i b. by_cases (dec_lt i c)
+    (λ (h : i < c).
+    let k : i < a = omega arith in
+    get_or_append_left (take a l) (ys ++ tail) e i (omega (arith, front)) ∙ get_or-take a l i e k
+    ∙ sym (cond-true (ltb i c) _ _ (lt-ltb i c h)))
+    (λ (h : i < c → ⊥).
+    get_or-append_right (take a l) (ys ++ tail) a i e front (omega arith) ∙ get_or_append_left ys tail e (i - a) (omega (arith, part))
+    ∙ ap (λ (x : List ℕ). get_or x (i - a) e) ey ∙ get_or-replicate _ (i - a) d e (omega (arith, back))
+    ∙ sym (cond-false (ltb i c) _ _ (le-ltb i c (omega arith)))))
 
 -- ---- the groups that count
 

@@ -22,7 +22,7 @@ use Rattle.forest.specs.Calls.{outside_groups, outside_parent, outside_parents, 
 use Rattle.forest.specs.Calls.{build_refusal, build_parents, check_refusal, check_parents}
 use Rattle.forest.specs.Claims.{Within, AcceptedForest, LaidByRule, ComponentsAreParts}
 use Rattle.layout.proofs.Tables.{length-tabulate, get_d_past}
-use Rattle.forest.proofs.Shared.{no_difference, groups-rest}
+use Rattle.forest.proofs.Shared.{no_difference, good-groups}
 use Rattle.forest.proofs.Ancestry.{acyclic_of, of_acyclic, ends-at-root}
 use Rattle.forest.proofs.Primaries.{primary-is, primary-unique, on-route, route-has, members-on-route, parent-on-route}
 use Rattle.forest.proofs.Primaries.{without-primary-none, none-without-primary}
@@ -110,10 +110,6 @@ groups-good n c gs rest e =
       },
       six.1,
     )
-
--- good groups are refused for nothing but what is left
-good-groups : (n c : ℕ) (gs rest : List ℕ) → groups_refusal n c gs [] ≡ [] → groups_refusal n c gs rest ≡ rest
-good-groups n c gs rest e = groups-rest n c gs rest [] (sym e)
 
 -- ---- what an unrefused drawing is
 

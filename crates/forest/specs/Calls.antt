@@ -1,25 +1,31 @@
 -- Rules of the calls `check` and `build` (document 01, "A built forest" and "Turned away"). Definitions only.
 -- A call is given n units, 24 places of groups of which the first c count, and the 32 parents of a drawing if it has one.
-use Rattle.std.specs.Prelude.{ℕ, Bool, true, false, not, ◌&&◌, ◌||◌, cond, List, [], ◌∷◌, length, get_or, ltb, leb, eqb}
+use Rattle.std.specs.Prelude.{ℕ, Bool, true, false, not, ◌&&◌, ◌||◌, cond, List, [], ◌∷◌, get_or, ltb, leb, eqb}
+use Rattle.std.specs.Prelude.{Result, Ok, Err}
 use Rattle.sets.specs.Sets.{difference, lowest, collect, below}
 use Rattle.layout.specs.Tables.{tabulate}
 use Rattle.forest.specs.Forest.{parent, cyclic_units, without_primary}
 use Rattle.layout.specs.Build.{built}
-use Rattle.forest.specs.declared.Verdict.{Verdict}
-use Rattle.forest.specs.declared.Verdict.TheVariants.{Accepted, BadCounts, EmptyGroup, OutsideUnits, OwnAncestor, NoPrimary}
+use Rattle.forest.specs.declared.Refusal.{Refusal}
+use Rattle.forest.specs.declared.Refusal.TheVariants.{BadCounts, EmptyGroup, OutsideUnits, OwnAncestor, NoPrimary}
 
--- The number of each verdict in document 01, and what the refusal carries: line 0, or 11's group. Nothing where the forest is accepted.
-unfoldable pub refusal : Verdict → List ℕ
-refusal Accepted = []
-refusal BadCounts = 5 ∷ 0 ∷ []
-refusal EmptyGroup = 4 ∷ 0 ∷ []
-refusal OutsideUnits = 6 ∷ 0 ∷ []
-refusal OwnAncestor = 10 ∷ []
-refusal (NoPrimary g) = 11 ∷ g ∷ []
+-- The number of each refusal in document 01, and what it carries: line 0, or 11's group.
+unfoldable pub refusal_numbers : Refusal → List ℕ
+refusal_numbers BadCounts = 5 ∷ 0 ∷ []
+refusal_numbers EmptyGroup = 4 ∷ 0 ∷ []
+refusal_numbers OutsideUnits = 6 ∷ 0 ∷ []
+refusal_numbers OwnAncestor = 10 ∷ []
+refusal_numbers (NoPrimary g) = 11 ∷ g ∷ []
 
--- the verdict refuses nothing
-unfoldable pub accepts : Verdict → Bool
-accepts v = eqb (length (refusal v)) 0
+-- what an answer refuses; nothing where it accepts
+unfoldable pub refusal : {A : Type 0} → Result A Refusal → List ℕ
+refusal (Ok x) = []
+refusal (Err e) = refusal_numbers e
+
+-- the parents that an answer has; those beside a refusal are all 255, which document 01 leaves open
+unfoldable pub parents_of : Result (List ℕ) Refusal → List ℕ
+parents_of (Ok ps) = ps
+parents_of (Err e) = tabulate 32 (λ u. 255)
 
 -- the group at place i; a place past those that count is not read, and is empty
 unfoldable pub counted_at : ℕ → List ℕ → ℕ → ℕ

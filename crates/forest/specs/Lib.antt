@@ -1,5 +1,4 @@
 pub mod Forest
 pub mod Calls
 pub mod Claims
-pub mod Faults
 pub mod Routes

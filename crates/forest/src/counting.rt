@@ -6,10 +6,6 @@ ghost use Rattle.forest.specs.Calls.{counted as countedOf};
 pub fn counted(mut groups: [u32; 24], count: usize) -> [u32; 24]
     ensures { result ≡ countedOf count groups }
 {
-    let mut i = count;
-    while i < 24 {
-        groups[i] = 0;
-        i += 1;
-    }
+    groups[count.min(24)..].fill(0);
     groups
 }

@@ -28,35 +28,33 @@ struct Table {
 
 // One step of a linear congruential generator.
 fn step(seed: u32) -> u32 {
-    ((seed as u64 * 1664525 + 1013904223) % 4294967296) as u32
+    seed.wrapping_mul(1664525).wrapping_add(1013904223)
 }
 
 // A unit from the seed's upper bits, the better ones.
 fn unit(seed: u32) -> usize {
-    (seed / 134217728) as usize
+    (seed >> 27) as usize
 }
 
 // A group of one to four units.
-fn random_group(seed: u32) -> Draw {
-    let a = step(seed);
-    let b = step(a);
-    let c = step(b);
-    let d = step(c);
-    let two = sets::including(sets::single(unit(a)), unit(b));
-    let members = sets::including(sets::including(two, unit(c)), unit(d));
-    Draw { members, seed: d }
+fn random_group(first: u32) -> Draw {
+    let mut members = 0;
+    let mut seed = first;
+    for _ in 0..4 {
+        seed = step(seed);
+        members = sets::including(members, unit(seed));
+    }
+    Draw { members, seed }
 }
 
 // A table of such groups.
 fn random_table(first: u32) -> Table {
     let mut groups = [0u32; 24];
     let mut seed = first;
-    let mut i = 0;
-    while i < 24 {
+    for group in &mut groups {
         let draw = random_group(seed);
-        groups[i] = draw.members;
+        *group = draw.members;
         seed = draw.seed;
-        i += 1;
     }
     Table { groups, seed }
 }
@@ -71,10 +69,8 @@ fn link(turn: usize, i: usize) -> u32 {
 // unit finds one link more, and the chain that is left below a root is one or two units shorter.
 fn chain(turn: usize) -> [u32; 24] {
     let mut groups = [0u32; 24];
-    let mut i = 0;
-    while i < 24 {
-        groups[i] = link(turn, i);
-        i += 1;
+    for (i, group) in groups.iter_mut().enumerate() {
+        *group = link(turn, i);
     }
     groups
 }
@@ -83,46 +79,32 @@ fn chain(turn: usize) -> [u32; 24] {
 fn table_of(kind: Kind, turn: usize, seed: u32) -> Table {
     match kind {
         Kind::Random => random_table(seed),
-        Kind::Chain => {
-            let groups = chain(turn);
-            Table { groups, seed }
-        }
-        Kind::Star => {
-            let groups = [4294967295u32; 24];
-            Table { groups, seed }
-        }
+        Kind::Chain => Table {
+            groups: chain(turn),
+            seed,
+        },
+        Kind::Star => Table {
+            groups: [u32::MAX; 24],
+            seed,
+        },
     }
 }
 
 // A checksum with one number more.
 fn mixed(sum: u32, value: u8) -> u32 {
-    ((sum as u64 * 31 + value as u64) % 4294967296) as u32
-}
-
-// A checksum with all parents.
-fn with_parents(first: u32, parents: [u8; 32]) -> u32 {
-    let mut sum = first;
-    let mut u = 0;
-    while u < 32 {
-        sum = mixed(sum, parents[u]);
-        u += 1;
-    }
-    sum
+    sum.wrapping_mul(31).wrapping_add(value as u32)
 }
 
 // The checksum of all builds of one kind.
 fn checksum(kind: Kind) -> u32 {
-    let mut sum: u32 = 0;
-    let mut seed: u32 = 1988;
-    let mut turn: usize = 0;
-    while turn < 10000 {
+    let mut sum = 0;
+    let mut seed = 1988;
+    for turn in 0..10000 {
         let table = table_of(kind, turn, seed);
-        let groups = table.groups;
         seed = table.seed;
-        let answer = forest::build(32, groups, 24);
-        let parents = answer.parents;
-        sum = with_parents(sum, parents);
-        turn += 1;
+        // a table that is refused counts as 32 roots
+        let parents = forest::build(32, table.groups, 24).unwrap_or([255; 32]);
+        sum = parents.iter().fold(sum, |sum, parent| mixed(sum, *parent));
     }
     sum
 }

@@ -1,16 +1,13 @@
 // Forests built, drawn and turned away, as document 01 tells: a line for each.
 #![tactic(auto)]
 
-use forest::{Answer, Verdict};
+use forest::Refusal;
 use std::io;
 
 // A list of groups whose first four places are given, with empty groups after them.
 fn table(a: u32, b: u32, c: u32, d: u32) -> [u32; 24] {
-    let mut groups = [0u32; 24];
-    groups[0] = a;
-    groups[1] = b;
-    groups[2] = c;
-    groups[3] = d;
+    let mut groups = [0; 24];
+    groups[..4].copy_from_slice(&[a, b, c, d]);
     groups
 }
 
@@ -21,71 +18,58 @@ fn bench_c() -> [u32; 24] {
 
 // A drawing whose first four parents are given, with roots after them.
 fn drawing(a: u8, b: u8, c: u8, d: u8) -> [u8; 32] {
-    let mut parents = [255u8; 32];
-    parents[0] = a;
-    parents[1] = b;
-    parents[2] = c;
-    parents[3] = d;
+    let mut parents = [255; 32];
+    parents[..4].copy_from_slice(&[a, b, c, d]);
     parents
-}
-
-// The unit after u in a circle of 32 units.
-fn after(u: usize) -> u8 {
-    (u % 32 + 1) as u8 % 32
 }
 
 // A drawing of 32 units in one circle, the parent of each the unit after it.
 fn circle() -> [u8; 32] {
-    let mut parents = [255u8; 32];
-    let mut u = 0;
-    while u < 32 {
-        parents[u] = after(u);
-        u += 1;
+    let mut parents = [0; 32];
+    for u in 0..31 {
+        parents[u] = u as u8 + 1;
     }
     parents
 }
 
-// The parent of u, with a comma before it unless u is the first unit.
-fn print_parent(rt: &impl Print, parents: [u8; 32], u: usize) -> io::Result<()> {
-    if 32 <= u {
-        return Ok(());
-    }
-    if 0 < u {
-        rt.print(",")?;
-    }
-    let parent = parents[u];
-    if parent == 255 {
-        return rt.print("-");
-    }
-    rt.print(parent)
-}
-
+// The parents of the first units, with a comma between them.
 fn print_parents(rt: &impl Print, units: usize, parents: [u8; 32]) -> io::Result<()> {
     rt.print(" parents=")?;
-    let mut u = 0;
-    while u < units {
-        print_parent(rt, parents, u)?;
-        u += 1;
+    for (u, &parent) in parents.iter().take(units).enumerate() {
+        if 0 < u {
+            rt.print(",")?;
+        }
+        if parent == 255 {
+            rt.print("-")?;
+        } else {
+            rt.print(parent)?;
+        }
     }
     Ok(())
 }
 
-fn print_no_primary(rt: &impl Print, group: usize) -> io::Result<()> {
-    print!(rt; " refused=11,{group}")
+// Document 01's number of a refusal, and what it carries.
+fn print_refusal(rt: &impl Print, refusal: Refusal) -> io::Result<()> {
+    match refusal {
+        Refusal::BadCounts => rt.print(" refused=5,0"),
+        Refusal::EmptyGroup => rt.print(" refused=4,0"),
+        Refusal::OutsideUnits => rt.print(" refused=6,0"),
+        Refusal::OwnAncestor => rt.print(" refused=10"),
+        Refusal::NoPrimary(group) => print!(rt; " refused=11,{group}"),
+    }
 }
 
 // One line: the name, and the units' parents or the refusal.
-fn print_answer(rt: &impl Print, name: &str, units: usize, answer: Answer) -> io::Result<()> {
+fn print_answer(
+    rt: &impl Print,
+    name: &str,
+    units: usize,
+    answer: Result<[u8; 32], Refusal>,
+) -> io::Result<()> {
     rt.print(name)?;
-    let verdict = answer.verdict;
-    let parents = answer.parents;
-    match verdict {
-        Verdict::Accepted => print_parents(rt, units, parents)?,
-        Verdict::BadCounts => rt.print(" refused=5,0")?,
-        Verdict::EmptyGroup => rt.print(" refused=4,0")?,
-        Verdict::OutsideUnits => rt.print(" refused=6,0")?,
-        Verdict::OwnAncestor => rt.print(" refused=10")?,
-        Verdict::NoPrimary(group) => print_no_primary(rt, group)?,
+    match answer {
+        Ok(parents) => print_parents(rt, units, parents)?,
+        Err(refusal) => print_refusal(rt, refusal)?,
     }
     rt.print("\n")
 }
@@ -116,9 +100,9 @@ fn drawn(
     )
 }
 
-// u, if it is in the set, with a comma before it unless it is the lowest.
-fn print_member(rt: &impl Print, set: u32, u: usize) -> io::Result<()> {
-    if sets::member(set, u) {
+// The members of a set in rising order, with a comma between them.
+fn print_members(rt: &impl Print, set: u32) -> io::Result<()> {
+    for u in sets::members(set) {
         if u != sets::lowest(set) {
             rt.print(",")?;
         }
@@ -127,20 +111,18 @@ fn print_member(rt: &impl Print, set: u32, u: usize) -> io::Result<()> {
     Ok(())
 }
 
-fn print_members(rt: &impl Print, set: u32) -> io::Result<()> {
-    let mut u = 0;
-    while u < 32 {
-        print_member(rt, set, u)?;
-        u += 1;
-    }
-    Ok(())
-}
-
-// One line: the name, and the units on a group's way.
-fn print_way(rt: &impl Print, name: &str, answer: Answer, group: u32) -> io::Result<()> {
+// One line: the name, and the units on a group's way; of a forest that is refused, the refusal.
+fn print_way(
+    rt: &impl Print,
+    name: &str,
+    answer: Result<[u8; 32], Refusal>,
+    group: u32,
+) -> io::Result<()> {
     print!(rt; "{name} way=")?;
-    let parents = answer.parents;
-    print_members(rt, forest::routes::route(parents, group))?;
+    match answer {
+        Ok(parents) => print_members(rt, forest::routes::route(parents, group))?,
+        Err(refusal) => print_refusal(rt, refusal)?,
+    }
     rt.print("\n")
 }
 

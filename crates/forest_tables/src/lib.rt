@@ -2,38 +2,56 @@
 // its primary, of the children and the parent of each unit, and last the numbers of units and groups.
 #![tactic(auto)]
 
-ghost use Rattle.std.specs.Prelude.{◌≡◌, ◌+◌, ◌*◌, ◌%◌, ◌/◌, length};
+ghost use Rattle.std.specs.Prelude.{◌≡◌, ◌+◌, ◌*◌, ◌%◌, ◌/◌};
 ghost use Rattle.sets.specs.Sets.{size as size_of};
 ghost use Rattle.layout.specs.Tables.{tabulate};
 ghost use Rattle.forest_tables.specs.Computed.{with_child, children_of, entry_of, tables_of};
 ghost use Rattle.forest_tables.specs.Computed.{group_in, route_in, primary_in, children_in, unit_count, group_count};
 
-use bench_store::{Limits, columns};
+use bench_store::Limits;
+use bench_store::columns::Column;
 
-// Where the columns begin.
+// The columns.
 #[derive(Clone, Copy)]
 pub struct Tables {}
 
 impl Tables {
-    pub const GROUPS: usize = 0;
+    pub const GROUPS: Column = Column {
+        start: 0,
+        size: Limits::GROUPS,
+    };
 
-    pub const ROUTES: usize = Limits::GROUPS;
+    pub const ROUTES: Column = Column {
+        start: Limits::GROUPS,
+        size: Limits::GROUPS,
+    };
 
-    pub const PRIMARIES: usize = 2 * Limits::GROUPS;
+    pub const PRIMARIES: Column = Column {
+        start: 2 * Limits::GROUPS,
+        size: Limits::GROUPS,
+    };
 
-    pub const CHILDREN: usize = 3 * Limits::GROUPS;
+    pub const CHILDREN: Column = Column {
+        start: 3 * Limits::GROUPS,
+        size: Limits::UNITS,
+    };
 
-    pub const PARENTS: usize = Tables::CHILDREN + Limits::UNITS;
+    pub const PARENTS: Column = Column {
+        start: 3 * Limits::GROUPS + Limits::UNITS,
+        size: Limits::UNITS,
+    };
 
     // Four numbers: the units and the groups, each as its lower and its upper 32 bits.
-    pub const NUMBERS: usize = Tables::PARENTS + Limits::UNITS;
+    pub const NUMBERS: Column = Column {
+        start: 3 * Limits::GROUPS + 2 * Limits::UNITS,
+        size: 4,
+    };
 
-    pub const SIZE: usize = Tables::NUMBERS + 4;
+    pub const SIZE: usize = 3 * Limits::GROUPS + 2 * Limits::UNITS + 4;
 }
 
 // Adds c to the children of u, if u is a unit.
 fn add_child(table: &mut [u32; Limits::UNITS], u: usize, c: usize)
-    requires { length table.old ≡ 32 }
     ensures { table.new ≡ with_child u c table.old }
 {
     if u < Limits::UNITS {
@@ -46,22 +64,20 @@ fn children_of(parents: [u8; Limits::UNITS]) -> [u32; Limits::UNITS]
     ensures { result ≡ tabulate 32 (children_of parents) }
 {
     let mut table = [0u32; Limits::UNITS];
-    let mut c = 0;
-    while c < Limits::UNITS {
-        let u = parents[c] as usize;
-        add_child(&mut table, u, c);
-        c += 1;
+    for c in 0..Limits::UNITS {
+        add_child(&mut table, parents[c] as usize, c);
     }
     table
 }
 
-// The lower and the upper 32 bits of a number.
+// The lower and the upper 32 bits of a number: the list that the C interface lends has 32-bit numbers. A cast alone may lose no bits.
 fn lower(n: usize) -> u32
     ensures { result ≡ n % 4294967296 }
 {
     (n % 4294967296) as u32
 }
 
+// The upper ones.
 fn upper(n: usize) -> u32
     ensures { result ≡ n / 4294967296 }
 {
@@ -75,7 +91,8 @@ fn joined(low: u32, high: u32) -> usize
     low as usize + high as usize * 4294967296
 }
 
-// Number i of the list: of its group, of its unit, or one of the last four.
+// Number i of the list: of its group, of its unit, or one of the last four. Columns written in turn take a loop each, and are no plainer.
+#[tactic(auto, unfolding(crate::specs::Computed::entry_of))]
 fn entry(
     i: usize,
     group: u32,
@@ -88,31 +105,25 @@ fn entry(
 ) -> u32
     ensures { result ≡ entry_of i group route primary children parent units count }
 {
-    if i < Tables::ROUTES {
-        return group;
+    if i < Tables::ROUTES.start {
+        group
+    } else if i < Tables::PRIMARIES.start {
+        route
+    } else if i < Tables::CHILDREN.start {
+        primary as u32
+    } else if i < Tables::PARENTS.start {
+        children
+    } else if i < Tables::NUMBERS.start {
+        parent as u32
+    } else if i == Tables::NUMBERS.start {
+        lower(units)
+    } else if i == Tables::NUMBERS.start + 1 {
+        upper(units)
+    } else if i == Tables::NUMBERS.start + 2 {
+        lower(count)
+    } else {
+        upper(count)
     }
-    if i < Tables::PRIMARIES {
-        return route;
-    }
-    if i < Tables::CHILDREN {
-        return primary as u32;
-    }
-    if i < Tables::PARENTS {
-        return children;
-    }
-    if i < Tables::NUMBERS {
-        return parent as u32;
-    }
-    if i == Tables::NUMBERS {
-        return lower(units);
-    }
-    if i == Tables::NUMBERS + 1 {
-        return upper(units);
-    }
-    if i == Tables::NUMBERS + 2 {
-        return lower(count);
-    }
-    upper(count)
 }
 
 // The list of units, of the groups that count, and of parents. The columns begin so that number i has place i % 24 in a column of groups,
@@ -131,8 +142,7 @@ pub fn of(
     let routes = found.routes;
     let primaries = found.primaries;
     let mut table = [0u32; Tables::SIZE];
-    let mut i = 0;
-    while i < Tables::SIZE {
+    for i in 0..Tables::SIZE {
         let g = i % Limits::GROUPS;
         let u = (i + Limits::GROUPS) % Limits::UNITS;
         table[i] = entry(
@@ -145,23 +155,24 @@ pub fn of(
             units,
             count,
         );
-        i += 1;
     }
     table
 }
 
 // The members of group g.
+#[tactic(auto, unfolding(crate::specs::Computed::group_in))]
 pub fn group(tables: &[u32], g: usize) -> u32
     ensures { result ≡ group_in tables.now g }
 {
-    columns::number(tables, Tables::GROUPS, Limits::GROUPS, g)
+    Tables::GROUPS.number(tables, g)
 }
 
 // Its route.
+#[tactic(auto, unfolding(crate::specs::Computed::route_in))]
 pub fn route(tables: &[u32], g: usize) -> u32
     ensures { result ≡ route_in tables.now g }
 {
-    columns::number(tables, Tables::ROUTES, Limits::GROUPS, g)
+    Tables::ROUTES.number(tables, g)
 }
 
 // The size of its route (document 01: way size).
@@ -173,34 +184,38 @@ pub fn route_size(tables: &[u32], g: usize) -> u16
 }
 
 // Its primary.
+#[tactic(auto, unfolding(crate::specs::Computed::primary_in))]
 pub fn primary(tables: &[u32], g: usize) -> u8
     ensures { result ≡ primary_in tables.now g }
 {
-    let top = columns::number(tables, Tables::PRIMARIES, Limits::GROUPS, g);
+    let top = Tables::PRIMARIES.number(tables, g);
     (top % 256) as u8
 }
 
 // The children of unit u.
+#[tactic(auto, unfolding(crate::specs::Computed::children_in))]
 pub fn children(tables: &[u32], u: usize) -> u32
     ensures { result ≡ children_in tables.now u }
 {
-    columns::number(tables, Tables::CHILDREN, Limits::UNITS, u)
+    Tables::CHILDREN.number(tables, u)
 }
 
 // How many units.
+#[tactic(auto, unfolding(crate::specs::Computed::unit_count))]
 pub fn unit_count(tables: &[u32]) -> usize
     ensures { result ≡ unit_count tables.now }
 {
-    let low = columns::number(tables, Tables::NUMBERS, 4, 0);
-    let high = columns::number(tables, Tables::NUMBERS, 4, 1);
+    let low = Tables::NUMBERS.number(tables, 0);
+    let high = Tables::NUMBERS.number(tables, 1);
     joined(low, high)
 }
 
 // How many groups.
+#[tactic(auto, unfolding(crate::specs::Computed::group_count))]
 pub fn group_count(tables: &[u32]) -> usize
     ensures { result ≡ group_count tables.now }
 {
-    let low = columns::number(tables, Tables::NUMBERS, 4, 2);
-    let high = columns::number(tables, Tables::NUMBERS, 4, 3);
+    let low = Tables::NUMBERS.number(tables, 2);
+    let high = Tables::NUMBERS.number(tables, 3);
     joined(low, high)
 }

@@ -26,9 +26,6 @@ pub record Forwarding : Type 0 where
 unfoldable pub with_pairs : List (List (List ℕ)) → Outgoing → Forwarding
 with_pairs pairs o = record { sender = o.sender; message = o.message; children = o.children; made = o.made; pairs = pairs }
 
-unfoldable pub without_pairs : Forwarding → Outgoing
-without_pairs f = record { sender = f.sender; message = f.message; children = f.children; made = f.made }
-
 -- a child is left
 unfoldable pub is_left : Forwarding → Bool
 is_left f = not (eqb f.children 0)

@@ -1,10 +1,10 @@
 // Passing a message on: a hop to each child, in rising unit number.
-ghost use Rattle.std.specs.Prelude.{◌≡◌, []};
-ghost use Rattle.sets.specs.Sets.{lowest};
-ghost use Rattle.hops.specs.Access.{with_pairs, without_pairs, is_left, next_hop, forwarding_after_next};
+ghost use Rattle.std.specs.Prelude.{◌≡◌};
+ghost use Rattle.hops.specs.Access.{with_pairs, forwarded, forwarded_hops};
 
-use bench_store::counts::PairCounts;
-use bench_store::{Limits, counts};
+use crate::append;
+use bench_store::counts::{Grid, PairCounts};
+use bench_store::{counts, plus};
 
 // The hops that one copy taken makes.
 #[derive(Clone, Copy)]
@@ -17,61 +17,24 @@ pub struct Outgoing {
     pub made: u16,
 }
 
-// Whether a child is left.
-pub fn is_left(o: Outgoing) -> bool
-    ensures { result ≡ is_left (with_pairs [] o) }
+// A hop to each child of `start` that has none yet, in rising unit number; each is counted. Answers how many hops are made then.
+pub fn forward(hops: &mut [model::Hop], pairs: &mut [Grid], start: Outgoing) -> u16
+    ensures { (result ≡ (forwarded 32 (with_pairs pairs.old start)).made)
+        × (hops.new ≡ forwarded_hops 32 (with_pairs pairs.old start) hops.old)
+        × (pairs.new ≡ (forwarded 32 (with_pairs pairs.old start)).pairs) }
 {
-    o.children != 0
-}
-
-// How many hops were made.
-pub fn made(o: Outgoing) -> u16
-    ensures { result ≡ o.made }
-{
-    o.made
-}
-
-// Where the next hop goes.
-pub fn place(o: Outgoing) -> usize
-    ensures { result ≡ o.made }
-{
-    o.made as usize
-}
-
-// The child that is next: the lowest.
-fn next_child(o: Outgoing) -> usize
-    ensures { result ≡ lowest o.children }
-{
-    sets::lowest(o.children)
-}
-
-// The hop to the next child; it is counted.
-pub fn next_hop(o: Outgoing, pairs: &mut [[[u16; Limits::UNITS]; Limits::UNITS]]) -> model::Hop
-    ensures { (result ≡ next_hop (with_pairs pairs.old o))
-        × (pairs.new ≡ (forwarding_after_next (with_pairs pairs.old o)).pairs) }
-{
-    let child = next_child(o);
-    let sequence = counts::add(pairs, PairCounts::MADE, o.sender as usize, child, 1);
-    model::Hop {
-        sender: o.sender,
-        receiver: child as u8,
-        sequence,
-        message: o.message,
-        state: 0,
+    let mut made = start.made;
+    for child in sets::members(start.children) {
+        let sequence = counts::add(pairs, PairCounts::MADE, start.sender as usize, child, 1);
+        let hop = model::Hop {
+            sender: start.sender,
+            receiver: child as u8,
+            sequence,
+            message: start.message,
+            state: 0,
+        };
+        append(hops, made as usize, hop);
+        made = plus(made, 1);
     }
-}
-
-// What is left once that hop was made.
-pub fn after(o: Outgoing) -> Outgoing
-    ensures { result ≡ without_pairs (forwarding_after_next (with_pairs [] o)) }
-{
-    let child = next_child(o);
-    let children = sets::excluding(o.children, child);
-    let made = bench_store::plus(o.made, 1);
-    Outgoing {
-        sender: o.sender,
-        message: o.message,
-        children,
-        made,
-    }
+    made
 }

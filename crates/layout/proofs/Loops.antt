@@ -15,7 +15,7 @@ use lib.ListN.{length, get_or, set, length-set}
 use lib.Seq.{get_or-set_same, get_or-set_other}
 use Rattle.sets.specs.Sets.{member, including_if, collect}
 use Rattle.layout.specs.Tables.{tabulate}
-use Rattle.layout.proofs.Tables.{length-tabulate, get_d_tabulate, tabulated, same_tables, collect-turn}
+use Rattle.layout.proofs.Tables.{length-tabulate, get_d_tabulate, tabulated, same_tables}
 
 -- ---- entries of a list
 
@@ -60,18 +60,6 @@ reached-all {A} {n} {g} h b = h.right ∙ ap g (le_antisymm h.within b)
 pub reached-turn : {A : Type 0} {n : ℕ} {g : ℕ → A} {s r : A} {i : ℕ} → Reached n g s i → i < n → r ≡ g (suc i)
     → Reached n g r (i + 1)
 reached-turn {A} {n} {g} {s} {r} {i} h b e = record { within = omega arith; right = e ∙ ap g (sym (add-one i)) }
-
--- a set that is collected by a test
-abbrev pub Collected : ℕ → (ℕ → Bool) → ℕ → ℕ → Type 0
-Collected n f s i = Reached n (λ k. collect k f) s i
-
-pub collected_none : {n : ℕ} (f : ℕ → Bool) → Collected n f 0 0
-unfolding collect
-collected_none f = record { within = omega arith; right = refl }
-
-pub collected_turn : {n : ℕ} (f : ℕ → Bool) {s i r : ℕ} {t : Bool} → Collected n f s i → i < n → t ≡ f i
-    → r ≡ including_if s i t → Collected n f r (i + 1)
-collected_turn {n} f {s} {i} {r} {t} h b ht hr = record { within = omega arith; right = collect-turn f i s r t h.right ht hr }
 
 -- a table of sets, each collected by its own test: one number more in each
 pub collected_more : (n k : ℕ) (test : ℕ → ℕ → Bool) (l : List ℕ) → l ≡ tabulate n (λ u. collect k (test u))

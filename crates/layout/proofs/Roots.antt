@@ -9,10 +9,11 @@ use native.Mathlib.Decide.{ℕ_discrete}
 use native.Mathlib.Omega.{arith}
 use lib.Dec.{ltb, eqb}
 use borrow.Author.Tests.{eq-eqb, ne_eqb, lt-ltb, le-ltb, ltb-true, ltb-false}
-use Rattle.sets.specs.Sets.{member, excluding, lowest}
+use Rattle.std.specs.Prelude.{Some, None}
+use Rattle.sets.specs.Sets.{member, excluding, lowest, TakesLowest}
 use Rattle.sets.proofs.Bools.{either, clash, cond-true, cond-false}
 use Rattle.sets.proofs.Laws.{member_below}
-use Rattle.sets.proofs.Members.{Left, left-all, next-member, left-turn, visits_start, visits_turn, visits_end}
+use Rattle.sets.proofs.Visits.{left-all, next-member, Visited, visited-none, visited-turn, visited-all}
 use Rattle.layout.specs.Build.{degree, better_of, largest_within, root, IsRoot}
 
 -- u does not come before r: it has a smaller degree, or the same and no lower number
@@ -33,10 +34,9 @@ largest_still : (deg : ℕ → ℕ) (s k : ℕ) → member s k ≡ false → lar
 unfolding largest_within better_of
 largest_still deg s k h = simp h
 
--- a search over the members: r is the best of those that are passed, and `left` has the others
+-- a search over the members: r is the best of those that are not left
 pub record Best (deg : ℕ → ℕ) (s left r : ℕ) : Type 0 where
-  pub others : Left s left
-  pub best : r ≡ largest_within (lowest left) deg s
+  pub visited : Visited s (λ k. largest_within k deg s) left r
   pub small : r < 32
 
 module _ (deg : ℕ → ℕ) {s : ℕ} (bounded : s < 2 ^ 32) where
@@ -44,40 +44,35 @@ module _ (deg : ℕ → ℕ) {s : ℕ} (bounded : s < 2 ^ 32) where
   pub best-first : {left r : ℕ} → 0 < s → r ≡ lowest s → left ≡ excluding s r → Best deg s left r
   unfolding largest_within better_of
   best-first some e x =
-      let all = left-all s bounded in
-      let n : s ≡ 0 → ⊥ = λ z. lt_irrefl 0 (omega arith) in record {
-        others = left-turn all n e x;
-        best = visits_turn s (λ k. largest_within k deg s) (largest_still deg s) all n e x
-            (visits_start s (λ k. largest_within k deg s) (largest_still deg s) refl) (λ b m w. rw (← w) (simp m));
-        small = (next-member all n e).0;
+      let n : s ≡ 0 → ⊥ = λ z. lt_irrefl 0 (omega arith) in
+      let low = (next-member (left-all s bounded) n e).0 in record {
+        visited = visited-turn s (λ k. largest_within k deg s) (largest_still deg s)
+            (visited-none s (λ k. largest_within k deg s) (largest_still deg s) bounded refl refl)
+            (some, low, e, x) (λ b m w. rw (← w) (simp m));
+        small = low;
       }
 
   -- k, the next one, takes its place just where it has a larger degree
-  module _ {left r k next : ℕ} (h : Best deg s left r) (n : left ≡ 0 → ⊥) (e : k ≡ lowest left)
-      (x : next ≡ excluding left k) where
-    turn : {v : ℕ} → (member s k ≡ true → r ≡ largest_within k deg s → v ≡ largest_within (suc k) deg s)
-        → v ≡ largest_within (lowest next) deg s
-    turn step = visits_turn s (λ i. largest_within i deg s) (largest_still deg s) h.others n e x h.best (λ b. step)
-
+  module _ {left r k next : ℕ} (h : Best deg s left r) (t : TakesLowest left (Some k) next) where
     pub best-next : deg r < deg k → Best deg s next k
     unfolding largest_within better_of
     best-next l = record {
-      others = left-turn h.others n e x;
-      best = turn (λ m w. rw (← w) (simp (m, lt-ltb (deg r) (deg k) l, or-true)));
-      small = (next-member h.others n e).0;
+      visited = visited-turn s (λ i. largest_within i deg s) (largest_still deg s) h.visited t
+          (λ b m w. rw (← w) (simp (m, lt-ltb (deg r) (deg k) l, or-true)));
+      small = t.1;
     }
 
     pub best-still : deg k ≤ deg r → Best deg s next r
     unfolding largest_within better_of
     best-still l =
         let unit = ne_eqb r 32 (λ z. let b = h.small in lt_irrefl 32 (omega arith)) in record {
-          others = left-turn h.others n e x;
-          best = turn (λ m w. rw (← w) (simp (m, le-ltb (deg r) (deg k) l, unit)));
+          visited = visited-turn s (λ i. largest_within i deg s) (largest_still deg s) h.visited t
+              (λ b m w. rw (← w) (simp (m, le-ltb (deg r) (deg k) l, unit)));
           small = h.small;
         }
 
-  pub best-end : {left r : ℕ} → Best deg s left r → left ≡ 0 → r ≡ largest_within 32 deg s
-  best-end h = visits_end s (λ k. largest_within k deg s) (largest_still deg s) 32 bounded (le_refl 32) h.best
+  pub best-end : {left r next : ℕ} → Best deg s left r → TakesLowest left None next → r ≡ largest_within 32 deg s
+  best-end h = visited-all s (λ k. largest_within k deg s) (largest_still deg s) 32 bounded (le_refl 32) h.visited
 
 module _ (deg : ℕ → ℕ) (s : ℕ) where
   -- what holds below k and at k holds below k + 1

@@ -1,13 +1,10 @@
--- Laws of tables, and of the loops that fill a table or a set place by place. Assumes nothing.
+-- Laws of tables. Assumes nothing.
 use mathlib.Core.Path.{◌≡◌, refl, sym, ap, subst, ◌∙◌}
-use mathlib.Core.Bool.{Bool}
 use mathlib.Core.List.{List, ◌∷◌}
-use Prim.Native.Nat.{ℕ, zero, suc, ◌+◌, ◌≤◌, ◌<◌, zero-le, suc-le-suc}
+use Prim.Native.Nat.{ℕ, zero, suc, ◌≤◌, ◌<◌, zero-le, suc-le-suc}
 use native.Mathlib.Nat.{not-suc-le-zero, le_of_suc-le-suc}
-use native.Mathlib.Numerals.{add-one}
 use lib.ListN.{length, get_or, get_or-eq_default}
 use lib.Seq.{ext_get_or}
-use Rattle.sets.specs.Sets.{including_if, collect}
 use Rattle.layout.specs.Tables.{tabulate}
 
 pub length-tabulate : {A : Type 0} (n : ℕ) (f : ℕ → A) → length (tabulate n f) ≡ n
@@ -37,11 +34,3 @@ unfolding tabulate
 same_tables zero f g h = refl
 same_tables (suc n) f g h = λ j. h 0 (suc-le-suc zero-le) j ∷ same_tables n (λ i. f (suc i)) (λ i. g (suc i))
     (λ i b. h (suc i) (suc-le-suc b)) j
-
--- one turn of a loop that collects the numbers that pass a test: `t` is what the test said of i
-pub collect-turn : (f : ℕ → Bool) (i s r : ℕ) (t : Bool) → s ≡ collect i f → t ≡ f i → r ≡ including_if s i t
-    → r ≡ collect (i + 1) f
-unfolding collect
-collect-turn f i s r t hs ht hr =
-    hr ∙ ap (λ (x : ℕ). including_if x i t) hs ∙ ap (including_if (collect i f) i) ht
-    ∙ ap (λ (n : ℕ). collect n f) (sym (add-one i))

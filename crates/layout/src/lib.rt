@@ -1,7 +1,7 @@
 // The layout of a forest from a table of groups: the rule by which `build` sets parents. The groups are read in the table, which stays.
 #![tactic(auto)]
 
-ghost use Rattle.std.specs.Prelude.{◌≡◌, true, length, ◌<◌};
+ghost use Rattle.std.specs.Prelude.{◌≡◌, true, ◌<◌};
 ghost use Rattle.layout.specs.Tables.{tabulate};
 ghost use Rattle.layout.specs.Build.{groups_of, absorbed as absorbedOf, spread as spread_of, component as componentOf};
 ghost use Rattle.layout.specs.Build.{degree as degreeOf, largest_within, built_parent};
@@ -9,21 +9,13 @@ ghost use Rattle.layout.specs.Layout.{grouped_within, degrees_of, degree_in, lie
 
 // The groups that hold u.
 fn groups_of(groups: &[u32; 24], u: usize) -> u32
-    requires { length groups.now ≡ 24 }
     ensures { result ≡ groups_of groups.now u }
 {
-    let mut set: u32 = 0;
-    let mut i = 0;
-    while i < 24 {
-        set = sets::including_if(set, i, sets::member(groups[i], u));
-        i += 1;
-    }
-    set
+    sets::collect(24, |i| sets::member(groups[i], u))
 }
 
 // How many groups hold u: the count of ones of their set.
 fn degree(groups: &[u32; 24], u: usize) -> u8
-    requires { length groups.now ≡ 24 }
     ensures { result ≡ degreeOf groups.now u }
 {
     sets::size(groups_of(groups, u)) as u8
@@ -31,29 +23,22 @@ fn degree(groups: &[u32; 24], u: usize) -> u8
 
 // The units that some group holds.
 fn grouped(groups: &[u32; 24]) -> u32
-    requires { length groups.now ≡ 24 }
     ensures { result ≡ grouped_within 24 groups.now }
 {
     let mut set: u32 = 0;
-    let mut i = 0;
-    while i < 24 {
-        set = sets::union(set, groups[i]);
-        i += 1;
+    for group in groups {
+        set = sets::union(set, *group);
     }
     set
 }
 
 // For each of the units how many groups hold it; 0 for every other.
 fn degrees(groups: &[u32; 24], units: u32) -> [u8; 32]
-    requires { length groups.now ≡ 24 }
     ensures { result ≡ degrees_of groups.now units }
 {
     let mut table = [0u8; 32];
-    let mut left = units;
-    while left != 0 {
-        let u = sets::lowest(left);
+    for u in sets::members(units) {
         table[u] = degree(groups, u);
-        left = sets::excluding(left, u);
     }
     table
 }
@@ -67,16 +52,9 @@ fn lies(g: u32, s: u32) -> bool
 
 // The groups that have all their units in s; an empty place of the table is among them, and joins nobody.
 fn inside(groups: &[u32; 24], s: u32) -> u32
-    requires { length groups.now ≡ 24 }
     ensures { result ≡ inside_of groups.now s }
 {
-    let mut set: u32 = 0;
-    let mut i = 0;
-    while i < 24 {
-        set = sets::including_if(set, i, lies(groups[i], s));
-        i += 1;
-    }
-    set
+    sets::collect(24, |i| lies(groups[i], s))
 }
 
 // s with the group g where it shares a unit with s.
@@ -84,57 +62,48 @@ fn absorbed(s: u32, g: u32) -> u32
     ensures { result ≡ absorbedOf s g true }
 {
     if sets::intersection(s, g) != 0 {
-        return sets::union(s, g);
+        sets::union(s, g)
+    } else {
+        s
     }
-    s
 }
 
 // s with every live group that shares a unit with it, one after the other.
 fn spread(groups: &[u32; 24], live: u32, s: u32) -> u32
-    requires { length groups.now ≡ 24 }
     ensures { result ≡ spread_of 24 groups.now live s }
 {
     let mut set = s;
-    let mut left = sets::intersection(sets::below(24), live);
-    while left != 0 {
-        let k = sets::lowest(left);
+    for k in sets::members(sets::intersection(sets::below(24), live)) {
         set = absorbed(set, groups[k]);
-        left = sets::excluding(left, k);
     }
     set
 }
 
 // The component of u over the live groups.
 fn component(groups: &[u32; 24], live: u32, u: usize) -> u32
-    requires { length groups.now ≡ 24 }
     ensures { result ≡ componentOf groups.now live u }
 {
     let mut set = sets::single(u);
-    let mut left: usize = 32;
-    while 0 < left {
+    for _ in 0..32usize {
         let next = spread(groups, live, set);
         if next == set {
             return set;
         }
         set = next;
-        left -= 1;
     }
     set
 }
 
 // The root of the part: its unit in most groups, among equals the lowest.
 fn root(degrees: &[u8; 32], part: u32) -> usize
-    requires { (length degrees.now ≡ 32) × (0 < part) }
+    requires { 0 < part }
     ensures { result ≡ largest_within 32 (degree_in degrees.now) part }
 {
     let mut r = sets::lowest(part);
-    let mut left = sets::excluding(part, r);
-    while left != 0 {
-        let k = sets::lowest(left);
+    for k in sets::members(sets::excluding(part, r)) {
         if degrees[r] < degrees[k] {
             r = k;
         }
-        left = sets::excluding(left, k);
     }
     r
 }
@@ -152,6 +121,7 @@ fn lay(groups: &[u32; 24], degrees: &[u8; 32], part: u32, top: u8, parents: &mut
         return;
     }
     let joining = inside(groups, rest);
+    // No `for`: a turn takes a whole part out of the rest, and nothing is counted.
     while rest != 0 {
         let smaller = component(groups, joining, sets::lowest(rest));
         lay(groups, degrees, smaller, r as u8, parents);
@@ -167,6 +137,7 @@ pub fn lay_out(groups: [u32; 24]) -> [u8; 32]
     let mut table = [255u8; 32];
     let mut rest = grouped(&groups);
     let counts = degrees(&groups, rest);
+    // No `for`: a turn takes a whole part out of the rest, and nothing is counted.
     while rest != 0 {
         let part = component(&groups, all, sets::lowest(rest));
         lay(&groups, &counts, part, 255, &mut table);

@@ -2,25 +2,26 @@
 use mathlib.Core.Path.{◌≡◌, refl, sym, ap, ◌∙◌}
 use mathlib.Core.Bool.{true, false, not}
 use mathlib.Core.List.{List, [], ◌∷◌, ◌++◌, map, foldl}
-use Prim.Native.Nat.{ℕ, zero, suc, ◌+◌, ◌-◌, ◌≤◌, ◌<◌, zero-le}
+use Prim.Native.Nat.{ℕ, zero, suc, ◌+◌, ◌≤◌, ◌<◌, zero-le}
 use native.Mathlib.Nat.{lt_irrefl}
 use native.Mathlib.Numerals.{add-one}
 use native.Mathlib.Omega.{arith}
-use lib.ListN.{length, take, drop, get_or, set, replicate}
+use lib.ListN.{length, get_or, set, replicate}
 use lib.Seq.{sets}
 use lib.Dec.{ltb, eqb}
-use borrow.Author.Tests.{lt-ltb, ltb-false, ne_eqb, eqb-true, eqb-false, not-false}
+use borrow.Author.Tests.{lt-ltb, ltb-false, ne_eqb, eqb-true, not-false}
 use Rattle.layout.specs.Tables.{tabulate}
 use Rattle.text.specs.Text.{after, is_word, some}
-use Rattle.text.specs.Writing.{place_of}
+use Rattle.std.specs.Prelude.{Some, None}
 use Rattle.text.proofs.Pieces.{none-parts}
 use Rattle.text.proofs.Written.{sets_end}
 use Rattle.lines.specs.Lines.{refuse, parents_key, build_word, entries_in, parent_of}
-use Rattle.lines.specs.Lines.{Parents, Build, Drawn, parents_in, parents_fault, is_build, parents_table}
-use Rattle.lines.specs.Fields.{first_line, fault_at, end_at, up_to, no_entries, parent_byte, with_entry, entries_fault, no_drawing}
-use Rattle.lines.specs.Fields.{drawing_at}
+use Rattle.lines.specs.Lines.{parents_in, parents_fault, parents_table}
+use Rattle.lines.specs.Fields.{fault_number, first_line, fault_at, Keyed, Keyless, Says, up_to, no_entries, parent_byte, with_entry}
+use Rattle.lines.specs.Fields.{entries_fault, drawn_of, drawn_in}
+use Rattle.lines.specs.declared.Fault.{Fault}
 use Rattle.lines.specs.declared.entries.Entries.{Entries}
-use Rattle.lines.proofs.Ends.{Found, end-missing, fault_line, value-is, said-good, said-faulty}
+use Rattle.lines.proofs.Ends.{keyless, said, refused}
 use Rattle.lines.proofs.Faults.{refuse-none}
 use Rattle.lines.proofs.Folds.{up_more, flag_is, count_test}
 
@@ -87,62 +88,47 @@ bytes-are units (e ∷ es) u h =
 
 -- ---- the line `parents=`
 
-module _ (units : ℕ) (rest : List ℕ) where
-  faulty : (f : ℕ) → fault_at (parents_fault units) rest ≡ f → (f ≡ 0 → ⊥) → drawing_at units rest ≡ no_drawing f 0 false
-  unfolding drawing_at
-  faulty = said-faulty (fault_at (parents_fault units) rest) _ (λ f. no_drawing f 0 false)
+pub drawing-missing : {rest : List ℕ} {f : Fault} (units : ℕ) → Keyless parents_key rest f
+    → fault_number f ≡ fault_at (parents_fault units) rest
+unfolding parents_fault refuse
+drawing-missing units k = keyless k (parents_fault units) (λ line h. simp h)
 
-  good : (said : Parents) → fault_at (parents_fault units) rest ≡ 0 → parents_in (first_line rest) ≡ said
-      → drawing_at units rest ≡ record { fault = 0; used = suc (place_of 10 rest); build = is_build said; parents = parents_table said }
-  unfolding drawing_at
-  good said h e = said-good (fault_at (parents_fault units) rest) _ (λ f. no_drawing f 0 false) h ∙ simp e
+module _ {rest value : List ℕ} {used : ℕ} (k : Keyed parents_key rest value used) (units : ℕ) where
+  pub drawing_build : is_word build_word value ≡ true → Says (parents_fault units) drawn_in rest (record { value = None; used = used })
+  unfolding parents_fault parents_in refuse drawn_of
+  drawing_build h =
+      let w : is_word build_word (after parents_key (first_line rest)) ≡ true = rw k.is at h in
+      said k (simp (k.begins, w)) (simp w)
 
-  pub drawing-missing : (end : ℕ) → end ≡ end_at parents_key rest → end ≡ length rest
-      → drawing_at units rest ≡ no_drawing 3 0 false
-  unfolding parents_fault refuse
-  drawing-missing end e l =
-      faulty 3 (end-missing parents_key rest end (parents_fault units) e l (λ line h. simp h)) (eqb-false 3 0 refl)
+  -- the entries s that were read
+  module _ (small : units < 256) (other : is_word build_word value ≡ false) {s : Entries}
+      (was : s ≡ foldl (with_entry units) no_entries (entries_in value)) where
+    es : List ℕ
+    es = entries_in value
 
-  module _ (end : ℕ) (found : Found parents_key rest end) where
-    value_there : take (end - 8) (drop 8 rest) ≡ after parents_key (first_line rest)
-    unfolding parents_key
-    value_there = value-is parents_key rest end found
+    fault_said : refuse (some (ltb 65536) es) 4 (refuse (some (ltb units) es) 6 (refuse (not (eqb (length es) units)) 8 0))
+        ≡ entries_fault s units
+    unfolding es
+    fault_said = sym (ap (λ (x : Entries). entries_fault x units) was ∙ read_fault units es small)
 
-    pub drawing_build : is_word build_word (take (end - 8) (drop 8 rest)) ≡ true → drawing_at units rest ≡ no_drawing 0 (end + 1) true
-    unfolding parents_fault parents_in refuse is_build parents_table no_drawing tabulate
-    drawing_build h =
-        let w : is_word build_word (after parents_key (first_line rest)) ≡ true = rw value_there at h in
-        good Build (fault_line (parents_fault units) rest found.inside ∙ simp (found.key_there, w)) (simp w)
-        ∙ cc (found.place, add-one end)
+    fault_there : parents_fault units (first_line rest) ≡ entries_fault s units
+    unfolding parents_fault refuse es
+    fault_there = simp (k.begins, ← k.is, other) fault_said
 
-    -- the entries that were read, and their fault f
-    module _ (small : units < 256) (other : is_word build_word (take (end - 8) (drop 8 rest)) ≡ false) (s : Entries) (f : ℕ)
-        (was : s ≡ foldl (with_entry units) no_entries (entries_in (take (end - 8) (drop 8 rest)))) (said : f ≡ entries_fault s units)
-      where
-        es : List ℕ
-        es = entries_in (take (end - 8) (drop 8 rest))
+    pub drawing-faulty : (f : Fault) → fault_number f ≡ entries_fault s units → fault_number f ≡ fault_at (parents_fault units) rest
+    drawing-faulty f h = refused k (parents_fault units) (fault_there ∙ sym h)
 
-        fault_said : refuse (some (ltb 65536) es) 4 (refuse (some (ltb units) es) 6 (refuse (not (eqb (length es) units)) 8 0)) ≡ f
-        unfolding es
-        fault_said = sym (said ∙ ap (λ (x : Entries). entries_fault x units) was ∙ read_fault units es small)
-
-        fault_there : fault_at (parents_fault units) rest ≡ f
-        unfolding parents_fault refuse es
-        fault_there = fault_line (parents_fault units) rest found.inside ∙ simp (found.key_there, ← value_there, other) fault_said
-
-        pub drawing-faulty : (f ≡ 0 → ⊥) → drawing_at units rest ≡ no_drawing f 0 false
-        drawing-faulty n = faulty f fault_there n
-
-        pub drawing-drawn : f ≡ 0 → drawing_at units rest ≡ record { fault = 0; used = end + 1; build = false; parents = s.parents }
-        unfolding parents_in is_build parents_table es
-        drawing-drawn z =
-            let bad = refuse-none (some (ltb 65536) es) 3 _ (fault_said ∙ z) in
-            let outside = refuse-none (some (ltb units) es) 5 _ bad.1 in
-            let count = refuse-none (not (eqb (length es) units)) 7 0 outside.1 in
-            let l : length es ≡ units = eqb-true (length es) units (not-false (eqb (length es) units) count.0) in
-            let parents : s.parents ≡ tabulate 32 (λ u. get_or (map parent_of es) u 255) =
-            ap (λ (x : Entries). x.parents) was
-            ∙ read-parents units es (omega arith)
-            ∙ ap (λ (ps : List ℕ). tabulate 32 (λ u. get_or ps u 255)) (bytes-are units es small outside.0)
-            in
-            good (Drawn (map parent_of es)) (fault_there ∙ z) (simp (← value_there, other)) ∙ cc (found.place, add-one end)
+    pub drawing-drawn : {ps : List ℕ} → (entries_fault s units ≡ 0) × (ps ≡ s.parents)
+        → Says (parents_fault units) drawn_in rest (record { value = Some ps; used = used })
+    unfolding parents_in drawn_of parents_table es
+    drawing-drawn h =
+        let bad = refuse-none (some (ltb 65536) es) 3 _ (fault_said ∙ h.0) in
+        let outside = refuse-none (some (ltb units) es) 5 _ bad.1 in
+        let count = refuse-none (not (eqb (length es) units)) 7 0 outside.1 in
+        let l : length es ≡ units = eqb-true (length es) units (not-false (eqb (length es) units) count.0) in
+        let parents : s.parents ≡ tabulate 32 (λ u. get_or (map parent_of es) u 255) =
+        ap (λ (x : Entries). x.parents) was
+        ∙ read-parents units es (omega arith)
+        ∙ ap (λ (ps : List ℕ). tabulate 32 (λ u. get_or ps u 255)) (bytes-are units es small outside.0)
+        in
+        said k (fault_there ∙ h.0) (simp (← k.is, other) (ap Some (h.1 ∙ parents)))

@@ -1,8 +1,9 @@
--- Laws of numbers added to a state one after the other: a flag that each may set, and a count of them up to a limit. Assumes nothing.
-use mathlib.Core.Path.{◌≡◌, sym, ap, ◌∙◌}
+-- Laws of numbers added to a state one after the other: those that the pieces of a text say, a flag that each may set, and a count of them
+-- up to a limit. Assumes nothing.
+use mathlib.Core.Path.{◌≡◌, refl, sym, ap, ◌∙◌}
 use mathlib.Core.Logic.{by_cases}
-use mathlib.Core.Bool.{Bool, ◌||◌, or-false}
-use mathlib.Core.List.{List, [], ◌∷◌, foldl}
+use mathlib.Core.Bool.{Bool, ◌||◌, cond, or-false}
+use mathlib.Core.List.{List, [], ◌∷◌, foldl, map}
 use Prim.Native.Nat.{ℕ, ◌+◌, ◌≤◌, ◌<◌}
 use native.Mathlib.Nat.{lt_irrefl}
 use native.Mathlib.Decide.{dec_lt}
@@ -11,9 +12,36 @@ use native.Mathlib.Omega.{arith}
 use lib.ListN.{length}
 use lib.Dec.{eqb}
 use borrow.Author.Tests.{lt-ltb, le-ltb, ne_eqb}
-use Rattle.text.specs.Text.{some}
+use Rattle.std.specs.List.{fold, slice_split, onto_first}
+use Rattle.text.specs.Text.{split, in_front, some}
 use Rattle.lines.specs.Fields.{up_to}
 use Rattle.lines.proofs.Faults.{or_more}
+
+-- ---- what the pieces of a text say
+
+front-is : (b : ℕ) (ps : List (List ℕ)) → onto_first b ps ≡ in_front b ps
+unfolding in_front
+front-is b [] = refl
+front-is b (p ∷ ps) = refl
+
+split-is : (c : ℕ) (t : List ℕ) → slice_split (λ b. eqb b c) t ≡ split c t
+unfolding split
+split-is c [] = refl
+split-is c (b ∷ bs) =
+    ap (λ (ps : List (List ℕ)). cond (eqb b c) ([] ∷ ps) (onto_first b ps)) (split-is c bs)
+    ∙ ap (λ (ps : List (List ℕ)). cond (eqb b c) ([] ∷ split c bs) ps) (front-is b (split c bs))
+
+fold-is : {S A : Type 0} (add : S → ℕ → S) (read : A → ℕ) (s : S) (ps : List A)
+    → fold (λ x p. add x (read p)) s ps ≡ foldl add s (map read ps)
+fold-is add read s [] = refl
+fold-is add read s (p ∷ ps) = fold-is add read (add s (read p)) ps
+
+pub pieces_folded : {S : Type 0} (add : S → ℕ → S) (read : List ℕ → ℕ) {s first : S} → s ≡ first → (v : List ℕ)
+    → fold (λ x p. add x (read p)) s (slice_split (λ b. eqb b 44) v) ≡ foldl add first (map read (split 44 v))
+pieces_folded add read {s} {first} e v =
+    fold-is add read s (slice_split (λ b. eqb b 44) v)
+    ∙ ap (λ (ps : List (List ℕ)). foldl add s (map read ps)) (split-is 44 v)
+    ∙ ap (λ x. foldl add x (map read (split 44 v))) e
 
 -- ---- one more, up to a limit
 

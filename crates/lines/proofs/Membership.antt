@@ -4,17 +4,17 @@ use mathlib.Core.Path.{◌≡◌, refl, sym, ap, ◌∙◌}
 use mathlib.Core.Logic.{by_cases}
 use mathlib.Core.Bool.{Bool, true, false, not, ◌||◌, cond, or-false}
 use mathlib.Core.List.{List, [], ◌∷◌, foldl}
-use Prim.Native.Nat.{ℕ, suc, ◌+◌}
+use Prim.Native.Nat.{ℕ, suc}
 use native.Mathlib.Decide.{dec_lt}
 use native.Mathlib.Omega.{arith}
-use lib.ListN.{length}
 use lib.Dec.{ltb, leb}
-use borrow.Author.Tests.{lt-ltb, le-ltb, le-leb, lt-leb, eqb-false}
-use Rattle.text.specs.Text.{after, some}
+use borrow.Author.Tests.{lt-ltb, le-ltb, le-leb, lt-leb}
+use Rattle.text.specs.Text.{some}
 use Rattle.lines.specs.Lines.{refuse, group_key, numbers_in, rises_from, group_in, group_fault}
-use Rattle.lines.specs.Fields.{first_line, end_at, no_field, field_at, no_members, with_member, members_fault}
+use Rattle.lines.specs.Fields.{fault_number, first_line, fault_at, Keyed, Keyless, Says, no_members, with_member, members_fault}
+use Rattle.lines.specs.declared.Fault.{Fault}
 use Rattle.lines.specs.declared.members.Members.{Members}
-use Rattle.lines.proofs.Ends.{Found, end-missing, field-faulty, found-good, found-faulty}
+use Rattle.lines.proofs.Ends.{keyless, said, refused}
 use Rattle.lines.proofs.Folds.{flag_is}
 
 -- ---- all members
@@ -47,25 +47,24 @@ module _ (units : ℕ) where
 
 -- ---- the line `group=`
 
-pub group-missing : (rest : List ℕ) (end units : ℕ) → end ≡ end_at group_key rest → end ≡ length rest
-    → field_at (group_fault units) group_in rest ≡ no_field 3
+pub group-missing : {rest : List ℕ} {f : Fault} (units : ℕ) → Keyless group_key rest f
+    → fault_number f ≡ fault_at (group_fault units) rest
 unfolding group_fault refuse
-group-missing rest end units e l =
-    field-faulty (group_fault units) group_in rest 3 (end-missing group_key rest end (group_fault units) e l
-    (λ line h. simp h)) (eqb-false 3 0 refl)
+group-missing units k = keyless k (group_fault units) (λ line h. simp h)
 
--- the members m read from the value of the line, and their fault f
-module _ (rest : List ℕ) (end units : ℕ) (found : Found group_key rest end) (m : Members) (f : ℕ)
-    (read : m ≡ foldl (with_member units) no_members (numbers_in (after group_key (first_line rest)))) (said : f ≡ members_fault m)
-  where
-    group-fault : group_fault units (first_line rest) ≡ f
-    unfolding group_fault refuse
-    group-fault = rw (found.key_there, said, read, fault_is)
+-- the members m read from the value of the line
+module _ {rest value : List ℕ} {used : ℕ} (k : Keyed group_key rest value used) (units : ℕ) {m : Members}
+    (read : m ≡ foldl (with_member units) no_members (numbers_in value)) where
+  group-fault : group_fault units (first_line rest) ≡ members_fault m
+  unfolding group_fault refuse
+  group-fault = simp (k.begins, ← k.is) (sym (ap members_fault read ∙ fault_is units (numbers_in value)))
 
-    pub group-faulty : (f ≡ 0 → ⊥) → field_at (group_fault units) group_in rest ≡ no_field f
-    group-faulty n = found-faulty (group_fault units) group_in rest group_key end found f group-fault n
+  pub group-faulty : (f : Fault) → fault_number f ≡ members_fault m → fault_number f ≡ fault_at (group_fault units) rest
+  group-faulty f h = refused k (group_fault units) (group-fault ∙ sym h)
 
-    pub group-good : f ≡ 0 → field_at (group_fault units) group_in rest ≡ record { fault = 0; used = end + 1; value = m.set }
-    unfolding group_in no_members
-    group-good z = found-good (group_fault units) group_in rest group_key end found m.set (group-fault ∙ z)
-        (ap (λ (x : Members). x.set) read ∙ set_is units (numbers_in (after group_key (first_line rest))) no_members)
+  pub group-good : {s : ℕ} → (members_fault m ≡ 0) × (s ≡ m.set)
+      → Says (group_fault units) group_in rest (record { value = s; used = used })
+  unfolding group_in no_members
+  group-good h = said k (group-fault ∙ h.0)
+      (h.1 ∙ ap (λ (x : Members). x.set) read ∙ set_is units (numbers_in value) no_members
+      ∙ ap (λ (v : List ℕ). foldl including 0 (numbers_in v)) k.is)

@@ -1,112 +1,100 @@
 -- Laws of events: the numbers of a send one after the other, and what a line says. Assumes nothing.
-use mathlib.Core.Path.{◌≡◌, refl, sym, ◌∙◌}
-use mathlib.Core.Logic.{⊎_elim}
+use mathlib.Core.Path.{◌≡◌, refl, sym, ap, ◌∙◌}
+use mathlib.Core.Logic.{by_cases}
 use mathlib.Core.Bool.{Bool, true, false, cond}
 use mathlib.Core.List.{List, [], ◌∷◌, foldl}
-use Prim.Native.Nat.{ℕ, suc, ◌+◌, ◌-◌, ◌≤◌, ◌<◌}
+use Prim.Native.Nat.{ℕ, suc, ◌≤◌, ◌<◌}
 use native.Mathlib.Nat.{lt_irrefl}
-use native.Mathlib.Numerals.{add-one}
+use native.Mathlib.Decide.{dec_lt}
 use native.Mathlib.Omega.{arith}
-use lib.ListN.{length, take, drop, get_or}
-use lib.Dec.{ltb}
-use borrow.Author.Tests.{ne_eqb, eqb-false}
-use Rattle.sets.proofs.Bools.{either}
-use Rattle.text.specs.Text.{number, starts_with, after}
+use lib.ListN.{length, get_or}
+use borrow.Author.Tests.{lt-ltb, le-ltb, ne_eqb}
+use Rattle.text.specs.Text.{number}
 use Rattle.text.specs.Writing.{place_of}
 use Rattle.lines.specs.Lines.{refuse, numbers_in, send_key, arrive_key, bad_send, event_fault, event_in, event_numbers}
-use Rattle.lines.specs.Fields.{first_line, fault_at, up_to, no_numbers, with_number, no_event, send_event, arrive_event, event_at}
-use Rattle.lines.specs.declared.events.EventField.{EventField}
-use Rattle.lines.proofs.Ends.{Found, end-found, end_keyed, fault_none, fault_line, value-is, said-good, said-faulty}
+use Rattle.lines.specs.Fields.{fault_number, first_line, fault_at, Keyed, Keyless, Says, up_to, no_numbers, with_number, send_fault}
+use Rattle.lines.specs.Fields.{send_numbers, said_in}
+use Rattle.lines.specs.declared.Fault.{Fault}
+use Rattle.lines.specs.declared.Fault.TheVariants.{BadValue}
+use Rattle.lines.specs.declared.events.Triple.{Triple}
+use Rattle.lines.proofs.Ends.{fault_none, fault_line, key-not, said, refused}
 use Rattle.lines.proofs.Folds.{count_test}
 
 -- ---- three numbers
 
--- a good send
-abbrev sent : ℕ → List ℕ → EventField
-sent n ns = record { fault = 0; used = n; first = suc (get_or ns 0 0); second = get_or ns 1 0; third = get_or ns 2 0 }
-
-send-is : (n : ℕ) (ns : List ℕ) → send_event (foldl with_number no_numbers ns) n ≡ cond (bad_send ns) (no_event 4) (sent n ns)
-unfolding send_event with_number no_numbers up_to bad_send
-send-is n [] = refl
-send-is n (a ∷ []) = refl
-send-is n (a ∷ b ∷ []) = refl
-send-is n (a ∷ b ∷ d ∷ []) = refl
-send-is n (a ∷ b ∷ d ∷ e ∷ ns) =
+send_fault-is : (ns : List ℕ) → send_fault (foldl with_number no_numbers ns) ≡ cond (bad_send ns) 4 0
+unfolding send_fault with_number no_numbers up_to bad_send
+send_fault-is [] = refl
+send_fault-is (a ∷ []) = refl
+send_fault-is (a ∷ b ∷ []) = refl
+send_fault-is (a ∷ b ∷ d ∷ []) = refl
+send_fault-is (a ∷ b ∷ d ∷ e ∷ ns) =
     simp (
       count_test with_number (λ t. t.count) 4 (λ t m. refl) (a ∷ b ∷ d ∷ e ∷ ns) no_numbers 3 refl (omega arith),
       ne_eqb (length (a ∷ b ∷ d ∷ e ∷ ns)) 3 (λ h. lt_irrefl 0 (omega arith)),
     )
 
+refuse-is : (b : Bool) → ◌≡◌ {A = ℕ} (refuse b 4 0) (cond b 4 0)
+unfolding refuse
+refuse-is true = refl
+refuse-is false = refl
+
+-- the numbers of a good send
+sent : List ℕ → List ℕ
+sent ns = suc (get_or ns 0 0) ∷ get_or ns 1 0 ∷ get_or ns 2 0 ∷ []
+
+send_numbers-are : (ns : List ℕ) → ◌≡◌ {A = ℕ} (cond (bad_send ns) 4 0) 0
+    → send_numbers (foldl with_number no_numbers ns) ≡ sent ns
+unfolding send_numbers with_number no_numbers up_to bad_send sent
+send_numbers-are [] h = refl
+send_numbers-are (a ∷ []) h = refl
+send_numbers-are (a ∷ b ∷ []) h = refl
+send_numbers-are (a ∷ b ∷ d ∷ []) h = refl
+send_numbers-are (a ∷ b ∷ d ∷ e ∷ ns) h =
+    let many = ne_eqb (length (a ∷ b ∷ d ∷ e ∷ ns)) 3 (λ h. lt_irrefl 0 (omega arith)) in
+    let four : ◌≡◌ {A = ℕ} 4 0 = simp many at h in
+    absurd (omega arith)
+
 -- ---- what a line says
 
-module _ (rest : List ℕ) where
-  event-good : (first second third : ℕ) → fault_at (event_fault 0) rest ≡ 0
-      → event_numbers (event_in (first_line rest)) ≡ first ∷ second ∷ third ∷ []
-      → event_at rest ≡ record { fault = 0; used = suc (place_of 10 rest); first = first; second = second; third = third }
-  unfolding event_at
-  event-good first second third h s = said-good (fault_at (event_fault 0) rest) _ no_event h ∙ simp s
+module _ {rest value : List ℕ} {used : ℕ} where
+  -- the numbers t read from the value of a send
+  module _ (k : Keyed send_key rest value used) {t : Triple} (read : t ≡ foldl with_number no_numbers (numbers_in value)) where
+    send_said : send_fault t ≡ cond (bad_send (numbers_in value)) 4 0
+    send_said = ap send_fault read ∙ send_fault-is (numbers_in value)
 
-  event-faulty : (f : ℕ) → fault_at (event_fault 0) rest ≡ f → (f ≡ 0 → ⊥) → event_at rest ≡ no_event f
-  unfolding event_at
-  event-faulty = said-faulty (fault_at (event_fault 0) rest) _ no_event
+    send_there : event_fault 0 (first_line rest) ≡ send_fault t
+    unfolding event_fault refuse
+    send_there = simp (k.begins, ← k.is) (refuse-is (bad_send (numbers_in value)) ∙ sym send_said)
 
-  pub event_endless : length rest ≤ place_of 10 rest → event_at rest ≡ no_event 3
-  event_endless h = event-faulty 3 (fault_none (event_fault 0) rest h) (eqb-false 3 0 refl)
+    pub send-faulty : (f : Fault) → fault_number f ≡ send_fault t → fault_number f ≡ fault_at (event_fault 0) rest
+    send-faulty f h = refused k (event_fault 0) (send_there ∙ sym h)
 
-  fault_is : (f : ℕ) → place_of 10 rest < length rest → event_fault 0 (first_line rest) ≡ f → fault_at (event_fault 0) rest ≡ f
-  fault_is f h e = fault_line (event_fault 0) rest h ∙ e
+    pub send-good : {ns : List ℕ} → (send_fault t ≡ 0) × (ns ≡ send_numbers t)
+        → Says (event_fault 0) said_in rest (record { value = ns; used = used })
+    unfolding event_in event_numbers sent
+    send-good h =
+        said k (send_there ∙ h.0)
+        (h.1 ∙ ap send_numbers read ∙ send_numbers-are (numbers_in value) (sym send_said ∙ h.0) ∙ simp (k.begins, ← k.is))
 
-  pub event-other : place_of 10 rest < length rest → starts_with send_key (first_line rest) ≡ false
-      → starts_with arrive_key (first_line rest) ≡ false
-      → event_at rest ≡ no_event 3
-  unfolding event_fault refuse
-  event-other h s a = event-faulty 3 (fault_is 3 h (simp (s, a))) (eqb-false 3 0 refl)
+  -- no send
+  module _ {other : Fault} (none : Keyless send_key rest other) (k : Keyed arrive_key rest value used) where
+    pub arrive-bad : {f : Fault} → (f ≡ BadValue) × (65535 < number value) → fault_number f ≡ fault_at (event_fault 0) rest
+    unfolding event_fault refuse fault_number
+    arrive-bad h = ap fault_number h.0 ∙ refused k (event_fault 0) (simp (key-not none k.ended, k.begins, ← k.is, lt-ltb 65535 _ h.1))
 
-  line-send : place_of 10 rest < length rest → starts_with send_key (first_line rest) ≡ true
-      → event_at rest ≡ send_event (foldl with_number no_numbers (numbers_in (after send_key (first_line rest))))
-      (suc (place_of 10 rest))
-  unfolding event_fault refuse event_in event_numbers
-  line-send h s =
-      let ns = numbers_in (after send_key (first_line rest)) in
-      ⊎_elim
-      (λ (b : bad_send ns ≡ true). event-faulty 4 (fault_is 4 h (simp (s, b))) (eqb-false 4 0 refl) ∙ sym (send-is _ ns ∙ simp b))
-      (λ (b : bad_send ns ≡ false).
-      event-good (suc (get_or ns 0 0)) (get_or ns 1 0) (get_or ns 2 0) (fault_is 0 h (simp (s, b))) (simp s)
-      ∙ sym (send-is _ ns ∙ simp b))
-      (either (bad_send ns))
+    pub arrive-good : {hop : ℕ} → (hop ≡ number value) × (hop ≤ 65535)
+        → Says (event_fault 0) said_in rest (record { value = 0 ∷ hop ∷ 0 ∷ []; used = used })
+    unfolding event_fault refuse event_in event_numbers
+    arrive-good {hop} h =
+        said k (simp (key-not none k.ended, k.begins, ← k.is, ← h.0, le-ltb 65535 hop h.1))
+        (simp (key-not none k.ended, ← k.is, ← h.0))
 
-  line-arrive : place_of 10 rest < length rest → starts_with send_key (first_line rest) ≡ false
-      → starts_with arrive_key (first_line rest) ≡ true
-      → event_at rest ≡ arrive_event (number (after arrive_key (first_line rest))) (suc (place_of 10 rest))
-  unfolding event_fault refuse event_in event_numbers arrive_event
-  line-arrive h s a =
-      let hop = number (after arrive_key (first_line rest)) in
-      ⊎_elim
-      (λ (b : ltb 65535 hop ≡ true). event-faulty 4 (fault_is 4 h (simp (s, a, b))) (eqb-false 4 0 refl) ∙ sym (simp b))
-      (λ (b : ltb 65535 hop ≡ false). event-good 0 hop 0 (fault_is 0 h (simp (s, a, b))) (simp s) ∙ sym (simp b))
-      (either (ltb 65535 hop))
-
-  pub event-send : (end : ℕ) → Found send_key rest end
-      → event_at rest ≡ send_event (foldl with_number no_numbers (numbers_in (take (end - 5) (drop 5 rest)))) (end + 1)
-  unfolding send_key
-  event-send end f =
-      let v : take (end - 5) (drop 5 rest) ≡ after send_key (first_line rest) = value-is send_key rest end f in
-      line-send f.inside f.key_there ∙ cc (f.place, add-one end)
-
-  pub event-arrive : (end : ℕ) → starts_with send_key (first_line rest) ≡ false → Found arrive_key rest end
-      → event_at rest ≡ arrive_event (number (take (end - 7) (drop 7 rest))) (end + 1)
-  unfolding arrive_key
-  event-arrive end s f =
-      let v : take (end - 7) (drop 7 rest) ≡ after arrive_key (first_line rest) = value-is arrive_key rest end f in
-      line-arrive f.inside s f.key_there ∙ cc (f.place, add-one end)
-
--- ---- what was said of the key of a line that ends at its LF
-
-module _ (rest : List ℕ) (end : ℕ) (place : end ≡ place_of 10 rest) (key : List ℕ) (said : Bool)
-    (s : said ≡ starts_with key (take end rest)) where
-  pub key_not : said ≡ false → starts_with key (first_line rest) ≡ false
-  unfolding first_line
-  key_not h = rw (← place) (sym s ∙ h)
-
-  pub key_found : (end ≡ length rest → ⊥) → said ≡ true → Found key rest end
-  key_found n h = end-found key rest end (end_keyed rest end place key (sym s ∙ h)) n
+pub event-missing : {rest : List ℕ} {other f : Fault} → Keyless send_key rest other → Keyless arrive_key rest f
+    → fault_number f ≡ fault_at (event_fault 0) rest
+unfolding event_fault refuse fault_number
+event-missing {rest} none k =
+    ap fault_number k.fault
+    ∙ sym (by_cases (dec_lt (place_of 10 rest) (length rest))
+    (λ l. fault_line (event_fault 0) rest l ∙ simp (key-not none l, key-not k l))
+    (λ l. fault_none (event_fault 0) rest (omega arith)))

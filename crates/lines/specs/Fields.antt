@@ -1,17 +1,28 @@
 -- What the functions of this crate compute: a line at the start of the rest of a file, its fault, and what it says where it has none.
 -- Definitions only.
-use Rattle.std.specs.Prelude.{ℕ, suc, ◌-◌, Bool, false, not, ◌||◌, cond, List, length, get_or, take, set, replicate, ltb, leb}
-use Rattle.std.specs.Prelude.{eqb}
+use Rattle.std.specs.Prelude.{ℕ, suc, ◌-◌, ◌<◌, ◌≤◌, ◌≡◌, true, false, not, ◌||◌, cond}
+use Rattle.std.specs.Prelude.{List, [], ◌∷◌, length, take, set, replicate}
+use Rattle.std.specs.Prelude.{ltb, leb, eqb, Option, Some, None, Result, MatchResult}
 use Rattle.sets.specs.Sets.{including}
-use Rattle.text.specs.Text.{starts_with}
+use Rattle.text.specs.Text.{starts_with, after}
 use Rattle.text.specs.Writing.{place_of}
-use Rattle.lines.specs.Lines.{refuse, parents_fault, parents_in, is_build, parents_table, event_fault, event_in, event_numbers}
-use Rattle.lines.specs.declared.fields.Field.{Field}
+use Rattle.lines.specs.Lines.{refuse, Parents, Build, Drawn, parents_in, parents_table, event_in, event_numbers}
+use Rattle.lines.specs.declared.Fault.{Fault}
+use Rattle.lines.specs.declared.Fault.TheVariants.{NoLine, BadValue, BadCount, NoSuchUnit, NotRising, WrongLength, TooManyEvents}
+use Rattle.lines.specs.declared.Line.{Line}
 use Rattle.lines.specs.declared.members.Members.{Members}
-use Rattle.lines.specs.declared.entries.Drawing.{Drawing}
 use Rattle.lines.specs.declared.entries.Entries.{Entries}
-use Rattle.lines.specs.declared.events.EventField.{EventField}
 use Rattle.lines.specs.declared.events.Triple.{Triple}
+
+-- document 01's number of each fault
+unfoldable pub fault_number : Fault → ℕ
+fault_number NoLine = 3
+fault_number BadValue = 4
+fault_number BadCount = 5
+fault_number NoSuchUnit = 6
+fault_number NotRising = 7
+fault_number WrongLength = 8
+fault_number TooManyEvents = 9
 
 -- ---- the first line of a text
 
@@ -23,18 +34,27 @@ first_line rest = take (place_of 10 rest) rest
 unfoldable pub fault_at : (List ℕ → ℕ) → List ℕ → ℕ
 fault_at fault rest = cond (ltb (place_of 10 rest) (length rest)) (fault (first_line rest)) 3
 
--- the end of that line, where it has its LF and begins with a key; else the length of the text
-unfoldable pub end_at : List ℕ → List ℕ → ℕ
-end_at key rest = cond (starts_with key (first_line rest)) (place_of 10 rest) (length rest)
+-- the line has its LF and begins with a key: what stands behind the key, and how many bytes the line takes with its LF
+pub record Keyed (key rest value : List ℕ) (used : ℕ) : Type 0 where
+  pub ended : place_of 10 rest < length rest
+  pub begins : starts_with key (first_line rest) ≡ true
+  pub is : value ≡ after key (first_line rest)
+  pub takes : used ≡ suc (place_of 10 rest)
 
-unfoldable pub no_field : ℕ → Field
-no_field f = record { fault = f; used = 0; value = 0 }
+-- it lacks its LF or begins otherwise
+pub record Keyless (key rest : List ℕ) (f : Fault) : Type 0 where
+  pub fault : f ≡ NoLine
+  pub endless : starts_with key (first_line rest) ≡ true → length rest ≤ place_of 10 rest
 
--- a line that says one number: its fault, how many bytes it takes with its LF, the number; beside a fault both are 0
-unfoldable pub field_at : (List ℕ → ℕ) → (List ℕ → ℕ) → List ℕ → Field
-field_at fault value rest =
-    cond (eqb (fault_at fault rest) 0) (record { fault = 0; used = suc (place_of 10 rest); value = value (first_line rest) })
-    (no_field (fault_at fault rest))
+-- a line without fault: what it says, and how many bytes it takes with its LF
+pub record Says {A : Type 0} (fault : List ℕ → ℕ) (value : List ℕ → A) (rest : List ℕ) (line : Line A) : Type 0 where
+  pub good : fault_at fault rest ≡ 0
+  pub says : line.value ≡ value (first_line rest)
+  pub takes : line.used ≡ suc (place_of 10 rest)
+
+-- what a line reader answers: what a line without fault says, else the fault
+abbrev pub Reads : {A : Type 0} → (List ℕ → ℕ) → (List ℕ → A) → List ℕ → Result (Line A) Fault → Type 0
+Reads fault value rest r = MatchResult r (Says fault value rest) (λ f. fault_number f ≡ fault_at fault rest)
 
 -- one more, up to a limit
 unfoldable pub up_to : ℕ → ℕ → ℕ
@@ -79,15 +99,13 @@ with_entry units es e = record {
 unfoldable pub entries_fault : Entries → ℕ → ℕ
 entries_fault es units = refuse es.bad 4 (refuse es.outside 6 (refuse (not (eqb es.count units)) 8 0))
 
-unfoldable pub no_drawing : ℕ → ℕ → Bool → Drawing
-no_drawing f n b = record { fault = f; used = n; build = b; parents = replicate 32 255 }
+-- the parents that a line says; none where it says `build`
+unfoldable pub drawn_of : Parents → Option (List ℕ)
+drawn_of Build = None
+drawn_of (Drawn ps) = Some (parents_table (Drawn ps))
 
-unfoldable pub drawing_at : ℕ → List ℕ → Drawing
-drawing_at units rest =
-    let said = parents_in (first_line rest) in
-    cond (eqb (fault_at (parents_fault units) rest) 0)
-    (record { fault = 0; used = suc (place_of 10 rest); build = is_build said; parents = parents_table said })
-    (no_drawing (fault_at (parents_fault units) rest) 0 false)
+abbrev pub drawn_in : List ℕ → Option (List ℕ)
+drawn_in line = drawn_of (parents_in line)
 
 -- ---- numbers of a send, one after the other
 
@@ -104,22 +122,13 @@ with_number t n = record {
 
 -- ---- an event
 
-unfoldable pub no_event : ℕ → EventField
-no_event f = record { fault = f; used = 0; first = 0; second = 0; third = 0 }
+-- 4 where they are not three, or one is above its limit
+unfoldable pub send_fault : Triple → ℕ
+send_fault t = cond (not (eqb t.count 3) || (ltb 65534 t.first || (ltb 65535 t.second || ltb 4294967295 t.third))) 4 0
 
-unfoldable pub send_event : Triple → ℕ → EventField
-send_event t n =
-    cond (eqb t.count 3)
-    (cond (ltb 65534 t.first || (ltb 65535 t.second || ltb 4294967295 t.third)) (no_event 4)
-    (record { fault = 0; used = n; first = suc t.first; second = t.second; third = t.third }))
-    (no_event 4)
+unfoldable pub send_numbers : Triple → List ℕ
+send_numbers t = suc t.first ∷ t.second ∷ t.third ∷ []
 
-unfoldable pub arrive_event : ℕ → ℕ → EventField
-arrive_event hop n = cond (ltb 65535 hop) (no_event 4) (record { fault = 0; used = n; first = 0; second = hop; third = 0 })
-
-unfoldable pub event_at : List ℕ → EventField
-event_at rest =
-    let ns = event_numbers (event_in (first_line rest)) in
-    cond (eqb (fault_at (event_fault 0) rest) 0)
-    (record { fault = 0; used = suc (place_of 10 rest); first = get_or ns 0 0; second = get_or ns 1 0; third = get_or ns 2 0 })
-    (no_event (fault_at (event_fault 0) rest))
+-- the three numbers that a line says
+abbrev pub said_in : List ℕ → List ℕ
+said_in line = event_numbers (event_in line)

@@ -1,24 +1,15 @@
 // The line `parents=`: `build` alone, or an entry for each unit with commas between them.
-ghost use Rattle.std.specs.Prelude.{◌≡◌, set};
+ghost use Rattle.std.specs.Prelude.{◌≡◌, MatchResult};
 ghost use mathlib.Core.List.{foldl};
-ghost use Rattle.lines.specs.Lines.{entry as entry_of, entries_in};
-ghost use Rattle.lines.specs.Fields.{no_entries, with_entry, entries_fault, parent_byte, drawing_at, no_drawing};
+ghost use Rattle.lines.specs.Lines.{entry as entry_of, entries_in, parents_fault};
+ghost use Rattle.lines.specs.Fields.{fault_number, no_entries, with_entry, entries_fault, parent_byte, drawn_in, Reads};
 
-use crate::fields::line_end;
-use crate::{counted, either};
-use text::reading::{find, is_word, number};
+use crate::fields::keyed;
+use crate::{Fault, Line, counted, listed};
+use text::reading::is_word;
 
-// What the line says: document 01's number for its fault or 0; how many bytes it takes with its LF; whether it is `build`; the 32 parents.
-// Beside a fault it takes 0 bytes; beside a fault, and for `build`, all parents are 255.
-#[derive(Clone, Copy)]
-pub struct Drawing {
-    pub fault: u8,
-    pub used: usize,
-    pub build: bool,
-    pub parents: [u8; 32],
-}
-
-// What the entries so far say: whether one is badly written; whether one is no unit; how many there are, counted to 256; the parents.
+// What the entries so far say: whether one is badly written; whether one is no unit; how many there are, counted to 256; the parents. The
+// flags stay apart: a later entry may have the fault of the lowest number, which is the line's.
 #[derive(Clone, Copy)]
 pub struct Entries {
     pub bad: bool,
@@ -27,42 +18,32 @@ pub struct Entries {
     pub parents: [u8; 32],
 }
 
-// A line without a drawing: a faulty one, or `build`.
-fn undrawn(fault: u8, used: usize, build: bool) -> Drawing
-    ensures { result ≡ no_drawing fault used build }
-{
-    Drawing {
-        fault,
-        used,
-        build,
-        parents: [255u8; 32],
-    }
-}
-
-// An entry: 0 for a root, else one more than the parent's number.
+// An entry, as the rule `entry` counts it: 0 for a root, else one more than the parent's number.
+#[tactic(auto, unfolding(crate::specs::Lines::entry, crate::specs::Lines::root_word))]
 fn entry(text: &[u8]) -> u64
     ensures { result ≡ entry_of text.now }
 {
     if is_word(text, b"-") {
-        return 0;
+        0
+    } else {
+        listed(text) + 1
     }
-    number(text) + 1
 }
 
 // The parent of an entry as a byte; 255 for a root, and for what does not fit.
+#[tactic(auto, unfolding(crate::specs::Fields::parent_byte))]
 fn parent(entry: u64) -> u8
     ensures { result ≡ parent_byte entry }
 {
-    if entry == 0 {
-        return 255;
+    match entry {
+        0 => 255,
+        1..=255 => (entry - 1) as u8,
+        _ => 255,
     }
-    if entry < 256 {
-        return (entry - 1) as u8;
-    }
-    255
 }
 
 // No entries.
+#[tactic(auto, unfolding(crate::specs::Fields::no_entries))]
 fn none() -> Entries
     ensures { result ≡ no_entries }
 {
@@ -70,30 +51,23 @@ fn none() -> Entries
         bad: false,
         outside: false,
         count: 0,
-        parents: [255u8; 32],
+        parents: [255; 32],
     }
-}
-
-// The parents with one at a place.
-fn with_parent(parents: [u8; 32], at: usize, p: u8) -> [u8; 32]
-    ensures { result ≡ set parents at p }
-{
-    let mut next = parents;
-    if at < 32 {
-        next[at] = p;
-    }
-    next
 }
 
 // One entry more, of so many units.
-fn with_entry(units: u8, entries: Entries, e: u64) -> Entries
-    ensures { result ≡ with_entry units entries e }
+#[tactic(auto, unfolding(crate::specs::Fields::with_entry, crate::specs::Fields::up_to))]
+fn with_entry(units: u8, entries: Entries, text: &[u8]) -> Entries
+    ensures { result ≡ with_entry units entries (entry_of text.now) }
 {
-    let old = entries.parents;
-    let parents = with_parent(old, entries.count, parent(e));
+    let e = entry(text);
+    let mut parents = entries.parents;
+    if entries.count < 32 {
+        parents[entries.count] = parent(e);
+    }
     Entries {
-        bad: either(entries.bad, 65536 < e),
-        outside: either(entries.outside, (units as u64) < e),
+        bad: entries.bad || 65536 < e,
+        outside: entries.outside || u64::from(units) < e,
         count: counted(256, entries.count),
         parents,
     }
@@ -103,54 +77,40 @@ fn with_entry(units: u8, entries: Entries, e: u64) -> Entries
 fn read_entries(value: &[u8], units: u8) -> Entries
     ensures { result ≡ foldl (with_entry units) no_entries (entries_in value.now) }
 {
-    let mut found = none();
-    let mut at = 0;
-    while at <= value.len() {
-        let end = at + find(&value[at..], 44);
-        let next = with_entry(units, found, entry(&value[at..end]));
-        found = next;
-        at = end + 1;
-    }
-    found
+    value
+        .split(|b| *b == b',')
+        .fold(none(), |entries, text| with_entry(units, entries, text))
 }
 
-// The lowest number of the entries' faults.
-fn fault(entries: Entries, units: u8) -> u8
-    ensures { result ≡ entries_fault entries units }
+// The parents of the entries, or the lowest of their faults.
+#[tactic(auto, unfolding(crate::specs::Fields::entries_fault, crate::specs::Fields::fault_number, crate::specs::Lines::refuse))]
+fn parents_of(entries: Entries, units: u8) -> Result<[u8; 32], Fault>
+    ensures { MatchResult result (λ ps. (entries_fault entries units ≡ 0) × (ps ≡ entries.parents))
+        (λ f. fault_number f ≡ entries_fault entries units) }
 {
     if entries.bad {
-        return 4;
+        Err(Fault::BadValue)
+    } else if entries.outside {
+        Err(Fault::NoSuchUnit)
+    } else if entries.count != usize::from(units) {
+        Err(Fault::WrongLength)
+    } else {
+        Ok(entries.parents)
     }
-    if entries.outside {
-        return 6;
-    }
-    if entries.count != units as usize {
-        return 8;
-    }
-    0
 }
 
-// The line `parents=`, of so many units.
-pub fn parents(rest: &[u8], units: u8) -> Drawing
-    ensures { result ≡ drawing_at units rest.now }
+// The line `parents=`, of so many units: `None` for `build`, else the parent of each unit, 255 for a root and past the units.
+pub fn parents(rest: &[u8], units: u8) -> Result<Line<Option<[u8; 32]>>, Fault>
+    ensures { Reads (parents_fault units) drawn_in rest.now result }
 {
-    let end = line_end(rest, b"parents=");
-    if end == rest.len() {
-        return undrawn(3, 0, false);
+    let line = keyed(rest, b"parents=")?;
+    let used = line.used;
+    if is_word(line.value, b"build") {
+        return Ok(Line { value: None, used });
     }
-    if is_word(&rest[8..end], b"build") {
-        return undrawn(0, end + 1, true);
-    }
-    let found = read_entries(&rest[8..end], units);
-    let number = fault(found, units);
-    if number != 0 {
-        return undrawn(number, 0, false);
-    }
-    let drawn = found.parents;
-    Drawing {
-        fault: 0,
-        used: end + 1,
-        build: false,
-        parents: drawn,
-    }
+    let drawn = parents_of(read_entries(line.value, units), units)?;
+    Ok(Line {
+        value: Some(drawn),
+        used,
+    })
 }

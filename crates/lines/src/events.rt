@@ -1,24 +1,14 @@
 // The lines `send=` and `arrive=`.
-ghost use Rattle.std.specs.Prelude.{◌≡◌};
+ghost use Rattle.std.specs.Prelude.{◌≡◌, MatchResult};
 ghost use mathlib.Core.List.{foldl};
-ghost use Rattle.lines.specs.Lines.{numbers_in};
-ghost use Rattle.lines.specs.Fields.{no_numbers, with_number, event_at, send_event, arrive_event, no_event};
+ghost use Rattle.text.specs.Text.{number as number_of};
+ghost use Rattle.lines.specs.Lines.{numbers_in, event_fault};
+ghost use Rattle.lines.specs.Fields.{fault_number, no_numbers, with_number, send_fault, send_numbers, said_in, Reads};
 
-use crate::{counted, pick};
-use text::reading::{find, number, starts_with};
+use crate::fields::{keyed, limited};
+use crate::{Fault, Line, counted, listed};
 
-// What the line says: document 01's number for its fault or 0; how many bytes it takes with its LF; its three numbers. Beside a fault all
-// are 0.
-#[derive(Clone, Copy)]
-pub struct EventField {
-    pub fault: u8,
-    pub used: usize,
-    pub first: u32,
-    pub second: u32,
-    pub third: u32,
-}
-
-// What the numbers of a send so far say: how many there are, counted to 4, and the first three.
+// What the numbers of a send so far say: how many there are, counted to 4, and the first three. No list keeps them: memory is fixed.
 #[derive(Clone, Copy)]
 pub struct Triple {
     pub count: usize,
@@ -27,20 +17,8 @@ pub struct Triple {
     pub third: u64,
 }
 
-// A faulty line.
-fn faulty(fault: u8) -> EventField
-    ensures { result ≡ no_event fault }
-{
-    EventField {
-        fault,
-        used: 0,
-        first: 0,
-        second: 0,
-        third: 0,
-    }
-}
-
 // No numbers.
+#[tactic(auto, unfolding(crate::specs::Fields::no_numbers))]
 fn none() -> Triple
     ensures { result ≡ no_numbers }
 {
@@ -53,15 +31,16 @@ fn none() -> Triple
 }
 
 // One number more.
-fn with_number(triple: Triple, n: u64) -> Triple
-    ensures { result ≡ with_number triple n }
+#[tactic(auto, unfolding(crate::specs::Fields::with_number, crate::specs::Fields::up_to))]
+fn with_number(triple: Triple, text: &[u8]) -> Triple
+    ensures { result ≡ with_number triple (number_of text.now) }
 {
-    let count = triple.count;
+    let n = listed(text);
     Triple {
-        count: counted(4, count),
-        first: pick(count == 0, n, triple.first),
-        second: pick(count == 1, n, triple.second),
-        third: pick(count == 2, n, triple.third),
+        count: counted(4, triple.count),
+        first: if triple.count == 0 { n } else { triple.first },
+        second: if triple.count == 1 { n } else { triple.second },
+        third: if triple.count == 2 { n } else { triple.third },
     }
 }
 
@@ -69,73 +48,37 @@ fn with_number(triple: Triple, n: u64) -> Triple
 fn read_numbers(value: &[u8]) -> Triple
     ensures { result ≡ foldl with_number no_numbers (numbers_in value.now) }
 {
-    let mut found = none();
-    let mut at = 0;
-    while at <= value.len() {
-        let end = at + find(&value[at..], 44);
-        let next = with_number(found, number(&value[at..end]));
-        found = next;
-        at = end + 1;
-    }
-    found
+    value
+        .split(|b| *b == b',')
+        .fold(none(), |triple, text| with_number(triple, text))
 }
 
 // What the numbers of a send say: source+1, group, word.
-#[tactic(auto, unfolding(crate::specs::Fields::send_event))]
-fn send(t: Triple, used: usize) -> EventField
-    ensures { result ≡ send_event t used }
+#[tactic(auto, unfolding(crate::specs::Fields::send_fault, crate::specs::Fields::send_numbers, crate::specs::Fields::fault_number))]
+fn send(t: Triple) -> Result<[u32; 3], Fault>
+    ensures { MatchResult result (λ ns. (send_fault t ≡ 0) × (ns ≡ send_numbers t)) (λ f. fault_number f ≡ send_fault t) }
 {
-    if t.count != 3 {
-        return faulty(4);
+    if t.count != 3 || 65534 < t.first || 65535 < t.second || 4294967295 < t.third {
+        return Err(Fault::BadValue);
     }
-    if 65534 < t.first {
-        return faulty(4);
-    }
-    if 65535 < t.second {
-        return faulty(4);
-    }
-    if 4294967295 < t.third {
-        return faulty(4);
-    }
-    EventField {
-        fault: 0,
-        used,
-        first: (t.first + 1) as u32,
-        second: t.second as u32,
-        third: t.third as u32,
-    }
+    Ok([(t.first + 1) as u32, t.second as u32, t.third as u32])
 }
 
-// What the number of an arrive says: 0, hop, 0.
-#[tactic(auto, unfolding(crate::specs::Fields::arrive_event))]
-fn arrive(hop: u64, used: usize) -> EventField
-    ensures { result ≡ arrive_event hop used }
+// An event at the start of the rest of a file: three numbers, of a send source+1, group and word, of an arrive 0, hop and 0.
+pub fn event(rest: &[u8]) -> Result<Line<[u32; 3]>, Fault>
+    ensures { Reads (event_fault 0) said_in rest.now result }
 {
-    if 65535 < hop {
-        return faulty(4);
+    if let Ok(line) = keyed(rest, b"send=") {
+        let value = send(read_numbers(line.value))?;
+        return Ok(Line {
+            value,
+            used: line.used,
+        });
     }
-    EventField {
-        fault: 0,
-        used,
-        first: 0,
-        second: hop as u32,
-        third: 0,
-    }
-}
-
-// An event at the start of the rest of a file.
-pub fn event(rest: &[u8]) -> EventField
-    ensures { result ≡ event_at rest.now }
-{
-    let end = find(rest, 10);
-    if end == rest.len() {
-        return faulty(3);
-    }
-    if starts_with(&rest[..end], b"send=") {
-        return send(read_numbers(&rest[5..end]), end + 1);
-    }
-    if starts_with(&rest[..end], b"arrive=") {
-        return arrive(number(&rest[7..end]), end + 1);
-    }
-    faulty(3)
+    let line = keyed(rest, b"arrive=")?;
+    let hop = limited(line.value, 65535)?;
+    Ok(Line {
+        value: [0, hop, 0],
+        used: line.used,
+    })
 }

@@ -1,76 +1,65 @@
 // Lines that say one number: `units=` and `groups=`.
-ghost use Rattle.std.specs.Prelude.{◌≡◌};
+ghost use Rattle.std.specs.Prelude.{◌≡◌, ◌≤◌, ◌<◌, MatchResult};
+ghost use Rattle.text.specs.Text.{number as number_of};
 ghost use Rattle.lines.specs.Lines.{count_fault, count_in, units_fault, groups_fault, units_key, groups_key};
-ghost use Rattle.lines.specs.Fields.{end_at, no_field, field_at};
+ghost use Rattle.lines.specs.Fields.{Keyed, Keyless, Reads};
+ghost use Rattle.lines.specs.declared.Fault.TheVariants.{BadValue};
 
+use crate::{Fault, Line};
 use text::reading::{find, number, starts_with};
 
-// What a line says: document 01's number for its fault or 0; how many bytes it takes with its LF; the number. Beside a fault both are 0.
-#[derive(Clone, Copy)]
-pub struct Field {
-    pub fault: u8,
-    pub used: usize,
-    pub value: u32,
+// What stands behind a key, where the line at the start of the rest of a file has its LF and begins with the key.
+pub fn keyed<'a>(rest: &'a [u8], key: &[u8]) -> Result<Line<&'a [u8]>, Fault>
+    ensures { MatchResult result (λ line. Keyed key.now rest.now line.value.now line.used) (Keyless key.now rest.now) }
+{
+    let end = find(rest, b'\n');
+    if end == rest.len() || !starts_with(&rest[..end], key) {
+        return Err(Fault::NoLine);
+    }
+    Ok(Line {
+        value: &rest[key.len()..end],
+        used: end + 1,
+    })
 }
 
-// A faulty line.
-pub fn faulty(fault: u8) -> Field
-    ensures { result ≡ no_field fault }
+// A number up to a limit.
+pub fn limited(text: &[u8], most: u32) -> Result<u32, Fault>
+    ensures { MatchResult result (λ n. (n ≡ number_of text.now) × (n ≤ most))
+        (λ f. (f ≡ BadValue) × (most < number_of text.now)) }
 {
-    Field {
-        fault,
-        used: 0,
-        value: 0,
+    match number(text) {
+        Some(n) if n <= most => Ok(n),
+        _ => Err(Fault::BadValue),
     }
-}
-
-// The end of the line at the start of the rest of a file, where it has its LF and begins with a key; else the length of the rest.
-pub fn line_end(rest: &[u8], key: &[u8]) -> usize
-    ensures { result ≡ end_at key.now rest.now }
-{
-    let end = find(rest, 10);
-    if starts_with(&rest[..end], key) {
-        return end;
-    }
-    rest.len()
 }
 
 // A key and a number from `least` to `most`.
-fn count(rest: &[u8], key: &[u8], least: u64, most: u64) -> Field
-    ensures { result ≡ field_at (count_fault key.now least most) (count_in key.now) rest.now }
+fn count(rest: &[u8], key: &[u8], least: u8, most: u8) -> Result<Line<u8>, Fault>
+    ensures { Reads (count_fault key.now least most) (count_in key.now) rest.now result }
 {
-    let end = line_end(rest, key);
-    if end == rest.len() {
-        return faulty(3);
+    let line = keyed(rest, key)?;
+    let value = limited(line.value, 65535)?;
+    if value < least as u32 || (most as u32) < value {
+        return Err(Fault::BadCount);
     }
-    let start = key.len();
-    let n = number(&rest[start..end]);
-    if 65535 < n {
-        return faulty(4);
-    }
-    if n < least {
-        return faulty(5);
-    }
-    if most < n {
-        return faulty(5);
-    }
-    Field {
-        fault: 0,
-        used: end + 1,
-        value: n as u32,
-    }
+    Ok(Line {
+        value: value as u8,
+        used: line.used,
+    })
 }
 
 // The line `units=`.
-pub fn units(rest: &[u8]) -> Field
-    ensures { result ≡ field_at units_fault (count_in units_key) rest.now }
+#[tactic(auto, unfolding(crate::specs::Lines::units_fault, crate::specs::Lines::units_key))]
+pub fn units(rest: &[u8]) -> Result<Line<u8>, Fault>
+    ensures { Reads units_fault (count_in units_key) rest.now result }
 {
     count(rest, b"units=", 1, 32)
 }
 
 // The line `groups=`.
-pub fn groups(rest: &[u8]) -> Field
-    ensures { result ≡ field_at groups_fault (count_in groups_key) rest.now }
+#[tactic(auto, unfolding(crate::specs::Lines::groups_fault, crate::specs::Lines::groups_key))]
+pub fn groups(rest: &[u8]) -> Result<Line<u8>, Fault>
+    ensures { Reads groups_fault (count_in groups_key) rest.now result }
 {
     count(rest, b"groups=", 0, 24)
 }

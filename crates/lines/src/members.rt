@@ -1,16 +1,15 @@
 // The line `group=`: members with commas between them.
-ghost use Rattle.std.specs.Prelude.{◌≡◌, ◌≤◌};
+ghost use Rattle.std.specs.Prelude.{◌≡◌, MatchResult};
 ghost use mathlib.Core.List.{foldl};
-ghost use Rattle.text.specs.Text.{not_a_number};
+ghost use Rattle.text.specs.Text.{number as number_of};
 ghost use Rattle.lines.specs.Lines.{numbers_in, group_fault, group_in};
-ghost use Rattle.lines.specs.Fields.{no_members, with_member, members_fault, field_at};
+ghost use Rattle.lines.specs.Fields.{fault_number, no_members, with_member, members_fault, Reads};
 
-use crate::either;
-use crate::fields::{Field, faulty, line_end};
-use text::reading::{find, number};
+use crate::fields::keyed;
+use crate::{Fault, Line, listed};
 
 // What the members so far say: whether one is badly written; whether one is no unit; whether one does not rise; the least that the next may
-// be; their set.
+// be; their set. The three flags stay apart: a later member may have the fault of the lowest number, which is the line's.
 #[derive(Clone, Copy)]
 pub struct Members {
     pub bad: bool,
@@ -21,6 +20,7 @@ pub struct Members {
 }
 
 // No members.
+#[tactic(auto, unfolding(crate::specs::Fields::no_members))]
 fn none() -> Members
     ensures { result ≡ no_members }
 {
@@ -34,14 +34,15 @@ fn none() -> Members
 }
 
 // One member more, of so many units.
-fn with_member(units: u8, members: Members, n: u64) -> Members
-    requires { n ≤ not_a_number }
-    ensures { result ≡ with_member units members n }
+#[tactic(auto, unfolding(crate::specs::Fields::with_member))]
+fn with_member(units: u8, members: Members, text: &[u8]) -> Members
+    ensures { result ≡ with_member units members (number_of text.now) }
 {
+    let n = listed(text);
     Members {
-        bad: either(members.bad, 65535 < n),
-        outside: either(members.outside, units as u64 <= n),
-        falls: either(members.falls, n < members.least),
+        bad: members.bad || 65535 < n,
+        outside: members.outside || u64::from(units) <= n,
+        falls: members.falls || n < members.least,
         least: n + 1,
         set: sets::including(members.set, n as usize),
     }
@@ -51,49 +52,36 @@ fn with_member(units: u8, members: Members, n: u64) -> Members
 fn read_members(value: &[u8], units: u8) -> Members
     ensures { result ≡ foldl (with_member units) no_members (numbers_in value.now) }
 {
-    let mut found = none();
-    let mut at = 0;
-    while at <= value.len() {
-        let end = at + find(&value[at..], 44);
-        let next = with_member(units, found, number(&value[at..end]));
-        found = next;
-        at = end + 1;
-    }
-    found
+    value
+        .split(|b| *b == b',')
+        .fold(none(), |members, text| with_member(units, members, text))
 }
 
-// The lowest number of the members' faults.
-fn fault(members: Members) -> u8
-    ensures { result ≡ members_fault members }
+// The set of the members, or the lowest of their faults.
+#[tactic(auto, unfolding(crate::specs::Fields::members_fault, crate::specs::Fields::fault_number, crate::specs::Lines::refuse))]
+fn set_of(members: Members) -> Result<u32, Fault>
+    ensures { MatchResult result (λ s. (members_fault members ≡ 0) × (s ≡ members.set))
+        (λ f. fault_number f ≡ members_fault members) }
 {
     if members.bad {
-        return 4;
+        Err(Fault::BadValue)
+    } else if members.outside {
+        Err(Fault::NoSuchUnit)
+    } else if members.falls {
+        Err(Fault::NotRising)
+    } else {
+        Ok(members.set)
     }
-    if members.outside {
-        return 6;
-    }
-    if members.falls {
-        return 7;
-    }
-    0
 }
 
-// The line `group=`, of so many units; its number is the group's set.
-pub fn group(rest: &[u8], units: u8) -> Field
-    ensures { result ≡ field_at (group_fault units) group_in rest.now }
+// The line `group=`, of so many units: the group's set.
+pub fn group(rest: &[u8], units: u8) -> Result<Line<u32>, Fault>
+    ensures { Reads (group_fault units) group_in rest.now result }
 {
-    let end = line_end(rest, b"group=");
-    if end == rest.len() {
-        return faulty(3);
-    }
-    let found = read_members(&rest[6..end], units);
-    let number = fault(found);
-    if number != 0 {
-        return faulty(number);
-    }
-    Field {
-        fault: 0,
-        used: end + 1,
-        value: found.set,
-    }
+    let line = keyed(rest, b"group=")?;
+    let value = set_of(read_members(line.value, units))?;
+    Ok(Line {
+        value,
+        used: line.used,
+    })
 }

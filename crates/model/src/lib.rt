@@ -1,7 +1,8 @@
 // The records of the rules of the bench (specs/). `Hop` is that of its code too.
 #![tactic(auto)]
 
-// A hop: one copy of a message on the cable from a sender to a receiver. The state is 0 out, 1 held, 2 taken.
+// A hop: one copy of a message on the cable from a sender to a receiver. The state is 0 out, 1 held, 2 taken: a number, as the C interface
+// lays the record out.
 #[repr(C)]
 #[derive(Clone, Copy)]
 pub struct Hop {

@@ -1,61 +1,57 @@
-// Lines that the program prints (document 01), put into a lent list from a place on, each with its LF. Each function answers the place
-// after it; at the list's end writing stops.
+// Lines that the program prints (document 01), each with its LF.
 #![tactic(auto)]
 
 ghost use Rattle.std.specs.Prelude.{[], ◌∷◌, ◌++◌};
-ghost use Rattle.text.specs.Writing.{Written};
+ghost use Rattle.text.specs.Writing.{Writes};
 ghost use Rattle.output_lines.specs.Output.{refused_line, message_texts, log_line, hops_line, rest_line};
 
-use text::writing::{put, put_number, put_text};
+use text::writing::Output;
 
 // `refused=line,number`.
-pub fn put_refusal(out: &mut [u8], at: usize, line: u16, number: u16) -> usize
-    ensures { Written (refused_line line number ++ 10 ∷ []) at out.old result out.new }
+pub fn put_refusal(output: &mut Output<u8>, line: u16, number: u16)
+    ensures { Writes (refused_line line number ++ 10 ∷ []) output.old output.new }
 {
-    let value = put_text(out, at, b"refused=");
-    let comma = put_number(out, value, line as u32);
-    let second = put(out, comma, 44);
-    let end = put_number(out, second, number as u32);
-    put(out, end, 10)
+    output.items(b"refused=");
+    output.number(line as u32);
+    output.item(b',');
+    output.number(number as u32);
+    output.item(b'\n');
 }
 
 // Messages, a comma before each.
-fn put_messages(out: &mut [u8], at: usize, log: &[u16]) -> usize
-    ensures { Written (message_texts log.now) at out.old result out.new }
+fn put_messages(output: &mut Output<u8>, log: &[u16])
+    ensures { Writes (message_texts log.now) output.old output.new }
 {
-    let mut next = at;
-    let mut i = 0;
-    while i < log.len() {
-        let message = put(out, next, 44);
-        next = put_number(out, message, log[i] as u32);
-        i += 1;
+    for message in log {
+        output.item(b',');
+        output.number(*message as u32);
     }
-    next
 }
 
 // `log=unit` and the messages of the unit's log.
-pub fn put_log(out: &mut [u8], at: usize, unit: u16, log: &[u16]) -> usize
-    ensures { Written (log_line unit log.now ++ 10 ∷ []) at out.old result out.new }
+pub fn put_log(output: &mut Output<u8>, unit: u16, log: &[u16])
+    ensures { Writes (log_line unit log.now ++ 10 ∷ []) output.old output.new }
 {
-    let value = put_text(out, at, b"log=");
-    let messages = put_number(out, value, unit as u32);
-    let end = put_messages(out, messages, log);
-    put(out, end, 10)
+    output.items(b"log=");
+    output.number(unit as u32);
+    put_messages(output, log);
+    output.item(b'\n');
 }
 
 // `hops=` and how many were made.
-pub fn put_hops(out: &mut [u8], at: usize, hops: u16) -> usize
-    ensures { Written (hops_line hops ++ 10 ∷ []) at out.old result out.new }
+pub fn put_hops(output: &mut Output<u8>, hops: u16)
+    ensures { Writes (hops_line hops ++ 10 ∷ []) output.old output.new }
 {
-    line_writer::put_count(out, at, b"hops=", hops as u32)
+    line_writer::put_count(output, b"hops=", hops as u32);
 }
 
 // The last line: `rest=` and `yes` or `no`.
-pub fn put_rest(out: &mut [u8], at: usize, rest: bool) -> usize
-    ensures { Written (rest_line rest ++ 10 ∷ []) at out.old result out.new }
+pub fn put_rest(output: &mut Output<u8>, rest: bool)
+    ensures { Writes (rest_line rest ++ 10 ∷ []) output.old output.new }
 {
     if rest {
-        return put_text(out, at, b"rest=yes\n");
+        output.items(b"rest=yes\n");
+    } else {
+        output.items(b"rest=no\n");
     }
-    put_text(out, at, b"rest=no\n")
 }

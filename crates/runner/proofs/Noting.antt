@@ -1,19 +1,13 @@
--- What is printed of the last event: its line where it was turned away, else nothing. Assumes nothing.
-use mathlib.Core.Path.{◌≡◌}
-use mathlib.Core.List.{[], ◌∷◌, ◌++◌}
+-- What is told of the last event. Assumes nothing.
+use mathlib.Core.Path.{◌≡◌, sym, ◌∙◌}
 use Prim.Native.Nat.{ℕ}
-use borrow.Author.Tests.{ne_eqb, eq-eqb}
-pub use Rattle.text.proofs.Written.{written_none}
-use Rattle.benchfile.specs.File.{ended}
-use Rattle.output_lines.specs.Output.{refused_line}
-use Rattle.runner.specs.Steps.{refusal_lines}
+use Rattle.std.specs.Prelude.{Option, Some, None, Result, Ok, Err, MatchOption, IsSomeAnd}
+use Rattle.std.specs.Result.{result_err}
 
-pub line_printed : (k n : ℕ) → (n ≡ 0 → ⊥) → ended (refusal_lines k n) ≡ refused_line k n ++ 10 ∷ []
-unfolding refusal_lines ended
-line_printed k n some = rw (ne_eqb n 0 some)
-
-pub none_printed : (k n : ℕ) → n ≡ 0 → ended (refusal_lines k n) ≡ []
-unfolding refusal_lines ended
-none_printed k n none = rw (eq-eqb n 0 none)
-
-pub ruleset printing = (line_printed, none_printed, written_none)
+-- the number of a refusal, as `err` and `map` tell it
+pub told : {A E : Type 0} (wanted : Result A E → Option ℕ) {Post : E → ℕ → Type 0} (r : Result A E) (m : Option ℕ)
+    → ((x : A) → wanted (Ok x) ≡ None) → ((e : E) (n : ℕ) → Post e n → wanted (Err e) ≡ Some n)
+    → MatchOption (result_err r) (m ≡ None) (λ e. IsSomeAnd m (Post e)) → m ≡ wanted r
+told wanted (Ok x) m none some cases = cases ∙ sym (none x)
+told wanted (Err e) None none some cases = absurd cases
+told wanted (Err e) (Some n) none some cases = sym (some e n cases)

@@ -6,8 +6,10 @@ use Prim.Native.Nat.{ℕ, ◌+◌, ◌%◌, ◌≤◌}
 use native.Mathlib.Omega.{arith}
 use lib.ListN.{length, take, drop, length-append, length-drop}
 use lib.Seq.{take_all}
-use Rattle.text.specs.Writing.{Written}
-use Rattle.text.proofs.Written.{written_append}
+use Rattle.std.specs.Prelude.{Result as Either}
+use Rattle.text.specs.declared.writing.Output.{Output}
+use Rattle.text.specs.Writing.{Written, Writes}
+use Rattle.text.proofs.Written.{writes_append}
 use Rattle.model.specs.declared.Hop.{Hop}
 use Rattle.model.specs.Network.{Plan, Ledger, Network, fresh_on, hops_of, log_of, sum_of}
 use Rattle.model.specs.Rules.{quiescent}
@@ -20,7 +22,7 @@ use Rattle.model.proofs.Progress.{run-ledger}
 use Rattle.bench_store.specs.Values.{plus}
 use Rattle.forest_tables.specs.Computed.{unit_count}
 use Rattle.forest_tables.proofs.Columns.{units_in}
-use Rattle.bench_promises.specs.declared.replies.RestReply.{RestReply}
+use Rattle.bench_promises.specs.declared.replies.ListTooShort.{ListTooShort}
 use Rattle.bench_promises.specs.Replies.{rest_answer}
 use Rattle.bench_promises.specs.State.{Bench, hop_records, log_book, plan_tables, bench_of, totals_of}
 use Rattle.bench_promises.specs.Promises.{after, RestPromise, LogPromise}
@@ -40,7 +42,7 @@ use Rattle.runner.specs.Printed.{log_lines}
 use Rattle.runner.specs.Printed.{run_lines, result_lines, taken_by}
 use Rattle.runner.specs.Steps.{begun_with, HandsBack, says_rest, Finished, BenchRun}
 use Rattle.runner.specs.declared.events.Progress.{Progress}
-use Rattle.runner.specs.declared.results.Totals.{Totals}
+use Rattle.runner.specs.declared.Printed.{Printed}
 use Rattle.runner.proofs.Plans.{plan-planned, plan-units, plan-groups}
 use Rattle.runner.proofs.RunResults.{result-lines, result-taken}
 use Rattle.runner.proofs.EventRuns.{EventsLeft, events-run}
@@ -73,7 +75,7 @@ module _ (P : Plan) (planned : Planned P) {past : List Answered} {b : Bench} {ho
       list_log P planned C cs e u [] part (subst (λ (l : List ℕ). LogPromise b u l part) (sym (append-nil book)) promise)
       ∙ handed-log u 6400 (network_of (run P cs)) (limits P planned cs) (omega arith)
 
-  end_rest : (r : RestReply) → RestPromise b hops r → says_rest (rest_answer r) ≡ quiescent (after P cs)
+  end_rest : (r : Either Bool ListTooShort) → RestPromise b hops r → says_rest (rest_answer r) ≡ quiescent (after P cs)
   unfolding says_rest after
   end_rest r promise = ap says_rest
       (list_rest P planned C cs e [] r (subst (λ (l : List Hop). RestPromise b l r) (sym (append-nil hops)) promise)
@@ -83,10 +85,10 @@ module _ (P : Plan) (planned : Planned P) {past : List Answered} {b : Bench} {ho
 abbrev state_lines : ℕ → Network → List (List ℕ)
 state_lines units W = log_lines units (λ u. log_of u W) ++ hops_line (length (hops_of W)) ∷ rest_line (quiescent W) ∷ []
 
-module _ (P : Plan) (planned : Planned P) (few : P.units ≤ 32) {p : Progress} {b : Bench} {hops : List Hop} {book out left : List ℕ}
-    {r : RestReply} {t : Totals} where
+module _ (P : Plan) (planned : Planned P) (few : P.units ≤ 32) {b : Bench} {hops : List Hop} {book : List ℕ}
+    {r : Either Bool ListTooShort} {o o₁ : Output ℕ} where
   end-lines : {past : List Answered} → Called P past b hops book → (cs : List Call) → map call_of past ≡ cs → RestPromise b hops r
-      → Finished p b r book out t left → Written (ended (state_lines P.units (after P cs))) p.at out t.bytes left
+      → Finished b r book o o₁ → Writes (ended (state_lines P.units (after P cs))) o o₁
   unfolding bench_of totals_of after
   end-lines C cs e rests F =
       let W = after P cs in
@@ -96,32 +98,31 @@ module _ (P : Plan) (planned : Planned P) (few : P.units ≤ 32) {p : Progress} 
       ∙ units_in P.units P.count P.groups P.parents in
       let made : b.totals.made ≡ length (hops_of W) = ap (λ (x : Bench). x.totals.made) bench in
       let rest = end_rest P planned C cs e r rests in
-      coe 0 1 (i. Written (ended (log_lines (units i) (λ u. log_of u W) ++ hops_line (made i) ∷ rest_line (rest i) ∷ [])) p.at out
-      t.bytes left)
-      (F.prints (omega (arith, units, few)) (λ u. log_of u W) (end-logs P planned C cs e))
+      coe 0 1 (i. Writes (ended (log_lines (units i) (λ u. log_of u W) ++ hops_line (made i) ∷ rest_line (rest i) ∷ [])) o o₁)
+      (F (omega (arith, units, few)) (λ u. log_of u W) (end-logs P planned C cs e))
 
 -- ---- from the fresh bench to the end
 
 -- a result's lines were printed, and its copies taken were counted
-abbrev Shown : Result → ℕ → List ℕ → Totals → List ℕ → Type 0
-Shown result at out t left = Written (ended (result_lines result)) at out t.bytes left × (t.taken ≡ taken_by result)
+abbrev Shown : Result → Output ℕ → ℕ → Output ℕ → Type 0
+Shown result o taken o₁ = Writes (ended (result_lines result)) o o₁ × (taken ≡ taken_by result)
 
 -- the events of a run, and then its end
 run-shown : (P : Plan) → Planned P → P.units ≤ 32 → (es : List FileEvent) {p q : Progress} {b : Bench} {hops : List Hop}
-    {book out out₁ left : List ℕ}
-    {r : RestReply} {t : Totals} → EventsLeft P [] es p out q b hops book out₁ → RestPromise b hops r
-    → Finished q b r book out₁ t left
-    → Shown (RanFrom p.line P (run P (map call_for es))) p.at out t left
+    {book : List ℕ} {o o₁ o₂ : Output ℕ}
+    {r : Either Bool ListTooShort} → EventsLeft P [] es p o q b hops book o₁ → RestPromise b hops r
+    → Finished b r book o₁ o₂
+    → Shown (RanFrom p.line P (run P (map call_for es))) o q.taken o₂
 unfolding after
-run-shown P planned few es {p} {q} {out = out} {out₁} {left} {t = t} E rests F =
+run-shown P planned few es {p} {o = o} {o₁} {o₂} E rests F =
     let cs = map call_for es in
     let k = p.line in
     let history : E.new ≡ history_of (run P cs) = list_history P planned E.chain cs E.calls in
     let text = ap ended (result-lines k P (run P cs)) ∙ run-lines-ended k (history_of (run P cs)) P.units _ _ _ in (
-      subst (λ (s : List ℕ). Written s p.at out t.bytes left) (sym text) (written_append
-          (subst (λ (l : List Answered). Written (ended (refused_events k l)) p.at out q.at out₁) history E.prints)
+      subst (λ (s : List ℕ). Writes s o o₂) (sym text) (writes_append
+          (subst (λ (l : List Answered). Writes (ended (refused_events k l)) o o₁) history E.prints)
           (end-lines P planned few E.chain cs E.calls rests F)),
-      F.sum ∙ E.sum ∙ ap taken_total history ∙ sym (result-taken k P (run P cs)),
+      E.sum ∙ ap taken_total history ∙ sym (result-taken k P (run P cs)),
     )
 
 -- all of a list of n was lent, and y was written
@@ -131,7 +132,7 @@ all_of n l left y size all e =
     take_all n left (omega (arith, ap length e, length-append y (drop n l), length-drop n l, size, all))
 
 -- whatever the 2,000 hops hold
-pub bench-run : (c : Content) (es : List FileEvent) {list book out : List ℕ} {hops : List Hop} {t : Totals} {hops' : List Hop}
+pub bench-run : (c : Content) (es : List FileEvent) {list book out : List ℕ} {hops : List Hop} {t : Printed} {hops' : List Hop}
     {book' left : List ℕ}
     → forest_refusal c ≡ [] → length c.groups ≡ 24 → list ≡ numbers_of es → length es ≤ 3000 → GoodEvents es
     → length hops ≡ 2000 → length book ≡ 6400
@@ -153,5 +154,9 @@ bench-run c es {book = book} {out} {hops} {t} {left = left} accepted places same
     coe 0 1 (i. Called P [] B.first (all_of 2000 hops B.hops-fresh (hop_records W) (hop-records-length W L) size x.1 i)
     (all_of 6400 book B.book-fresh (log_book W) (log-book-length W L) size' x.2 i)) (begun B.begins x.0) in
     let E = events-run P planned [] es B.runs C same good (omega (arith, few)) (omega (arith, line, few, groups)) refl in
-    subst (λ (k : ℕ). Shown (RanFrom k P (run P (map call_for es))) 0 out t left) line
-    (run-shown P planned units es E B.rests B.finishes)
+    let S = subst (λ (k : ℕ). Shown (RanFrom k P (run P (map call_for es))) B.before B.end.taken B.after) line
+    (run-shown P planned units es E B.rests B.finishes) in (
+      coe 0 1 (i. Written (ended (result_lines (result_of_run c es))) (B.starts.0 i) (B.starts.1 i) (B.ends.0 i) (B.ends.1 i))
+          S.0.written,
+      B.sum ∙ S.1,
+    )

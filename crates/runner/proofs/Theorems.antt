@@ -15,16 +15,15 @@ use Rattle.model.proofs.Theorems.{demand_3, reading}
 use Rattle.benchfile.specs.File.{File, Good, read_file, ended}
 use Rattle.benchfile.specs.Calls.{WroteBytes, content_of, write_says, write_leaves}
 use Rattle.output_lines.specs.Output.{refused_line}
-use Rattle.runner.specs.declared.RunAnswer.{RunAnswer}
 use Rattle.runner.specs.Printed.{forest_refusal, plan_of, call_for, Result, RefusedAt, RanFrom, result_of_run, on_forest, result_of, result}
-use Rattle.runner.specs.Printed.{result_lines, printed, taken_by, run_answer, output_short, RunPromise}
+use Rattle.runner.specs.Printed.{result_lines, printed, taken_by, RunReply, run_answer, taken_in, output_short, RunPromise}
 use Rattle.runner.specs.Claims.{PrintedRun}
 use Rattle.runner.proofs.Plans.{plan-planned}
 use Rattle.runner.proofs.RunResults.{result-lines, result-taken}
 
 -- what `run` answers and leaves where the list is long enough
-module _ (file out : List ℕ) (r : RunAnswer) (left : List ℕ) (p : RunPromise file out r left) where
-  says-bytes : output_short out ≡ false → run_answer r.reply ≡ WroteBytes (length (printed file))
+module _ (file out : List ℕ) (r : RunReply) (left : List ℕ) (p : RunPromise file out r left) where
+  says-bytes : output_short out ≡ false → run_answer r ≡ WroteBytes (length (printed file))
   unfolding write_says
   says-bytes h = p.answers ∙ ap (λ (b : Bool). write_says b (printed file)) h
 
@@ -36,7 +35,7 @@ module _ (file out : List ℕ) (r : RunAnswer) (left : List ℕ) (p : RunPromise
 
   -- the bytes printed and the sum, whatever the file comes to
   prints : 98740 ≤ length out → (o : Result) → result file ≡ o
-      → (n : ℕ) × (run_answer r.reply ≡ WroteBytes n) × (take n left ≡ ended (result_lines o)) × (r.taken ≡ taken_by o)
+      → (n : ℕ) × (run_answer r ≡ WroteBytes n) × (take n left ≡ ended (result_lines o)) × (taken_in r ≡ taken_by o)
   unfolding printed output_short
   prints enough o e =
       let long : output_short out ≡ false = le-ltb (length out) 98740 enough in (
@@ -47,9 +46,9 @@ module _ (file out : List ℕ) (r : RunAnswer) (left : List ℕ) (p : RunPromise
       )
 
 -- demand 3 holds of what is printed for a good file whose forest is not refused
-pub run-ordered : (file out : List ℕ) (r : RunAnswer) (left : List ℕ) → RunPromise file out r left → 98740 ≤ length out
+pub run-ordered : (file out : List ℕ) (r : RunReply) (left : List ℕ) → RunPromise file out r left → 98740 ≤ length out
     → (F : File) → read_file 9000 file ≡ Good F → forest_refusal (content_of F) ≡ []
-    → (n : ℕ) × (run_answer r.reply ≡ WroteBytes n) × PrintedRun F (take n left) r.taken
+    → (n : ℕ) × (run_answer r ≡ WroteBytes n) × PrintedRun F (take n left) (taken_in r)
 unfolding result result_of on_forest result_of_run plan_of content_of
 run-ordered file out r left p enough F e accepted =
     let P = plan_of (content_of F) in
@@ -69,15 +68,15 @@ run-ordered file out r left p enough F e accepted =
     )
 
 -- for a file or a forest that is refused, one line is printed, and nothing was taken
-pub run-refused : (file out : List ℕ) (r : RunAnswer) (left : List ℕ) → RunPromise file out r left → 98740 ≤ length out
+pub run-refused : (file out : List ℕ) (r : RunReply) (left : List ℕ) → RunPromise file out r left → 98740 ≤ length out
     → (line number : ℕ) → result file ≡ RefusedAt line number
-    → (n : ℕ) × (run_answer r.reply ≡ WroteBytes n) × (take n left ≡ refused_line line number ++ 10 ∷ []) × (r.taken ≡ 0)
+    → (n : ℕ) × (run_answer r ≡ WroteBytes n) × (take n left ≡ refused_line line number ++ 10 ∷ []) × (taken_in r ≡ 0)
 unfolding result_lines ended taken_by
 run-refused file out r left p enough line number e = prints file out r left p enough (RefusedAt line number) e
 
 -- so many bytes as are answered are the text printed, and they stand in the list
-pub run-bytes : (file out : List ℕ) (r : RunAnswer) (left : List ℕ) → RunPromise file out r left
-    → (n : ℕ) → run_answer r.reply ≡ WroteBytes n → (take n left ≡ printed file)
+pub run-bytes : (file out : List ℕ) (r : RunReply) (left : List ℕ) → RunPromise file out r left
+    → (n : ℕ) → run_answer r ≡ WroteBytes n → (take n left ≡ printed file)
     × (n ≡ length (take n left)) × (n ≤ length left)
 unfolding write_says
 run-bytes file out r left p n e = ⊎_elim

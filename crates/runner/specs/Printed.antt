@@ -1,5 +1,6 @@
 -- Rules of the program (document 01, "The bench file", second paragraph): what is printed for a file, whatever it holds. Definitions only.
-use Rattle.std.specs.Prelude.{ℕ, suc, ◌+◌, ◌≡◌, Bool, cond, List, [], ◌∷◌, ◌++◌, map, length, get_or, ltb}
+use Rattle.std.specs.Prelude.{ℕ, suc, ◌+◌, ◌≡◌, Bool, cond, List, [], ◌∷◌, ◌++◌, map, length, get_or, ltb, Ok, Err}
+use Rattle.std.specs.Prelude.{Result as Either}
 use Rattle.layout.specs.Tables.{tabulate}
 use Rattle.forest.specs.Calls.{build_refusal, build_parents, check_refusal, check_parents}
 use Rattle.model.specs.Network.{Plan, hops_of, log_of}
@@ -11,10 +12,9 @@ use Rattle.benchfile.specs.File.{File, Outcome, Refused as RefusedFile, Good, en
 use Rattle.benchfile.specs.File.{read_file}
 use Rattle.benchfile.specs.Calls.{Answer as Reply, TurnedAway, WroteBytes, content_of, write_says, write_leaves}
 use Rattle.benchfile.specs.declared.Content.{Content}
+use Rattle.benchfile.specs.declared.ListTooShort.{ListTooShort}
 use Rattle.output_lines.specs.Output.{refused_line, log_line, hops_line, rest_line}
-use Rattle.runner.specs.declared.RunReply.{RunReply}
-use Rattle.runner.specs.declared.RunReply.TheVariants.{Printed, ListTooShort}
-use Rattle.runner.specs.declared.RunAnswer.{RunAnswer}
+use Rattle.runner.specs.declared.Printed.{Printed}
 
 -- ---- the forest of a file: built, or checked as it is drawn
 
@@ -97,17 +97,25 @@ taken_by (RanFrom k P (ran W past)) = taken_total past
 
 -- ---- the call
 
+abbrev pub RunReply : Type 0
+RunReply = Either Printed ListTooShort
+
 -- document 01's number, or how many bytes
 unfoldable pub run_answer : RunReply → Reply
-run_answer (Printed n) = WroteBytes n
-run_answer ListTooShort = TurnedAway (1 ∷ [])
+run_answer (Ok p) = WroteBytes p.bytes
+run_answer (Err e) = TurnedAway (1 ∷ [])
+
+-- the sum that the reply carries; none beside a refusal
+unfoldable pub taken_in : RunReply → ℕ
+taken_in (Ok p) = p.taken
+taken_in (Err e) = 0
 
 -- the lent list is too short
 unfoldable pub output_short : List ℕ → Bool
 output_short out = ltb (length out) 98740
 
 -- `run` was given a file and a list of bytes; it answered r, and the list is left so
-pub record RunPromise (file out : List ℕ) (r : RunAnswer) (left : List ℕ) : Type 0 where
-  pub answers : run_answer r.reply ≡ write_says (output_short out) (printed file)
+pub record RunPromise (file out : List ℕ) (r : RunReply) (left : List ℕ) : Type 0 where
+  pub answers : run_answer r ≡ write_says (output_short out) (printed file)
   pub leaves : left ≡ write_leaves (output_short out) (printed file) out
-  pub taken : r.taken ≡ cond (output_short out) 0 (taken_by (result file))
+  pub taken : taken_in r ≡ cond (output_short out) 0 (taken_by (result file))

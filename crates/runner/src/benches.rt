@@ -4,19 +4,12 @@ ghost use Rattle.model.specs.declared.Hop.{Hop};
 ghost use Rattle.model.specs.Network.{no_hop};
 ghost use Rattle.runner.specs.Steps.{BenchRun};
 
-use crate::results::Totals;
-use crate::{events, results};
-use bench::{Bench, Fresh};
+use crate::{Printed, events, results};
+use bench::Bench;
 use bench_store::Limits;
+use text::writing::Output;
 
-// The bench of an answer.
-fn bench_of(fresh: Fresh) -> Bench
-    ensures { result ≡ fresh.bench }
-{
-    fresh.bench
-}
-
-// Runs the events of a list on a fresh bench, and prints. The bench is taken apart, and its lists are lent to the calls of `bench_engine`.
+// Runs the events of a list on a fresh bench, and prints. The lists of the bench are lent to the calls of `bench_engine`.
 fn run_hops(
     units: usize,
     groups: [u32; Limits::GROUPS],
@@ -26,30 +19,37 @@ fn run_hops(
     hops: &mut [model::Hop],
     book: &mut [u16],
     out: &mut [u8],
-) -> Totals
+) -> Printed
     ensures { BenchRun units count groups parents list.now hops.old book.old out.old
         result hops.new book.new out.new }
 {
     let fresh = Bench::fresh(units, groups, count, parents, hops, book);
-    let first = bench_of(fresh);
-    let tables = bench::tables_of(first);
-    let mut messages = bench::messages_of(first);
-    let mut pairs = bench::pairs_of(first);
-    let mut gauges = bench::gauges_of(first);
-    let start = events::begun(count, bench::totals_of(first));
+    let mut bench = fresh.bench;
+    let mut output = Output { out, at: 0 };
     let end = events::run_events(
-        start,
+        events::begun(count, bench.totals),
         list,
-        &tables,
-        &mut messages,
-        &mut pairs,
-        &mut gauges,
+        &bench.tables,
+        &mut bench.messages,
+        &mut bench.pairs.grids,
+        &mut bench.gauges,
         hops,
         book,
-        out,
+        &mut output,
     );
-    let rest = bench_engine::rest(events::totals_of(end), hops);
-    results::finish(end, rest, &tables, &gauges, book, out)
+    let rest = bench_engine::rest(end.totals, hops);
+    results::finish(
+        &mut output,
+        end.totals,
+        rest,
+        &bench.tables,
+        &bench.gauges,
+        book,
+    );
+    Printed {
+        bytes: output.at,
+        taken: end.taken,
+    }
 }
 
 // The same, with hops of its own.
@@ -61,7 +61,7 @@ pub fn run_bench(
     list: &[u32],
     book: &mut [u16],
     out: &mut [u8],
-) -> Totals
+) -> Printed
     ensures { (hops : List Hop) × BenchRun units count groups parents list.now (replicate 2000 no_hop)
         book.old out.old result hops book.new out.new }
 {

@@ -5,51 +5,30 @@ ghost use Rattle.bench_promises.specs.State.{bench};
 ghost use Rattle.bench_promises.specs.Replies.{rest_answer};
 ghost use Rattle.runner.specs.Steps.{UnitPut, LogsPut, says_rest, Finished};
 
-use crate::events::Progress;
-use bench_promises::RestReply;
+use bench_promises::{RestReply, Totals};
 use bench_store::Limits;
+use text::writing::Output;
 
-// How many bytes were printed, and the sum of the numbers that the answers of taken carry.
-#[derive(Clone, Copy)]
-pub struct Totals {
-    pub bytes: usize,
-    pub taken: u16,
-}
-
-// The log of a unit.
-fn put_unit(
-    unit: u16,
-    tables: &[u32],
-    gauges: &[u16],
-    book: &[u16],
-    out: &mut [u8],
-    at: usize,
-) -> usize
-    ensures { (t : BenchTotals) (ms : List ℕ) (ps : List (List (List ℕ)))
-        → UnitPut (bench t tables.now ms ps gauges.now) unit book.now out.old at result
-        out.new }
+// The log of a unit. Here and below the lists of the bench that are read are lent apart, as `bench_engine::log` takes them.
+fn put_unit(output: &mut Output<u8>, unit: u16, tables: &[u32], gauges: &[u16], book: &[u16])
+    ensures same_list { output.new.out.ghost_name ≡ output.old.out.ghost_name }
+    ensures log { (t : BenchTotals) (ms : List ℕ) (ps : List (List (List ℕ)))
+        → UnitPut (bench t tables.now ms ps gauges.now) unit book.now output.old output.new }
 {
     let log = bench_engine::log(unit, tables, gauges, book);
-    output_lines::put_log(out, at, unit, log)
+    output_lines::put_log(output, unit, log);
 }
 
 // The logs of the first units, at most 32.
-fn put_logs(tables: &[u32], gauges: &[u16], book: &[u16], out: &mut [u8], at: usize) -> usize
-    ensures { (t : BenchTotals) (ms : List ℕ) (ps : List (List (List ℕ)))
-        → LogsPut (bench t tables.now ms ps gauges.now) book.now out.old at result
-        out.new }
+fn put_logs(output: &mut Output<u8>, tables: &[u32], gauges: &[u16], book: &[u16])
+    ensures same_list { output.new.out.ghost_name ≡ output.old.out.ghost_name }
+    ensures logs { (t : BenchTotals) (ms : List ℕ) (ps : List (List (List ℕ)))
+        → LogsPut (bench t tables.now ms ps gauges.now) book.now output.old output.new }
 {
-    let units = forest_tables::unit_count(tables);
-    let mut next = at;
-    let mut u: u16 = 0;
-    while u < Limits::UNITS as u16 {
-        if units <= u as usize {
-            return next;
-        }
-        next = put_unit(u, tables, gauges, book, out, next);
-        u += 1;
+    let units = forest_tables::unit_count(tables).min(Limits::UNITS) as u16;
+    for u in 0..units {
+        put_unit(output, u, tables, gauges, book);
     }
-    next
 }
 
 // Does the reply say rest?
@@ -57,31 +36,23 @@ fn put_logs(tables: &[u32], gauges: &[u16], book: &[u16], out: &mut [u8], at: us
 fn is_rest(reply: RestReply) -> bool
     ensures { result ≡ says_rest (rest_answer reply) }
 {
-    match reply {
-        RestReply::Rest(b) => b,
-        RestReply::ListTooShort => false,
-    }
+    reply.unwrap_or(false)
 }
 
 // Prints the logs, the hops made and the rest.
 pub fn finish(
-    p: Progress,
+    output: &mut Output<u8>,
+    totals: Totals,
     rest: RestReply,
     tables: &[u32],
     gauges: &[u16],
     book: &[u16],
-    out: &mut [u8],
-) -> Totals
-    ensures { (ms : List ℕ) (ps : List (List (List ℕ)))
-        → Finished p (bench p.totals tables.now ms ps gauges.now) rest book.now out.old result
-        out.new }
+)
+    ensures same_list { output.new.out.ghost_name ≡ output.old.out.ghost_name }
+    ensures lines { (ms : List ℕ) (ps : List (List (List ℕ)))
+        → Finished (bench totals tables.now ms ps gauges.now) rest book.now output.old output.new }
 {
-    let hops = put_logs(tables, gauges, book, out, p.at);
-    let totals = p.totals;
-    let last = output_lines::put_hops(out, hops, totals.made);
-    let bytes = output_lines::put_rest(out, last, is_rest(rest));
-    Totals {
-        bytes,
-        taken: p.taken,
-    }
+    put_logs(output, tables, gauges, book);
+    output_lines::put_hops(output, totals.made);
+    output_lines::put_rest(output, is_rest(rest));
 }

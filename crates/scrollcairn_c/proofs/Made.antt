@@ -7,13 +7,15 @@ use Prim.Native.Nat.{ℕ, zero, suc, ◌≤◌}
 use native.Mathlib.Omega.{arith}
 use lib.ListN.{length, take, drop, take-append-drop}
 use lib.Seq.{take_at, drop_at, length-take-le}
+use Rattle.std.specs.Prelude.{Result}
 use Rattle.sets.proofs.Bools.{clash}
 use Rattle.model.specs.declared.Hop.{Hop}
 use Rattle.model.specs.Network.{Network}
 use Rattle.model.specs.Rules.{left_of, send, arrive}
 use Rattle.bench_promises.specs.declared.Totals.{Totals}
-use Rattle.bench_promises.specs.declared.replies.SendReply.{SendReply}
-use Rattle.bench_promises.specs.declared.replies.ArriveReply.{ArriveReply}
+use Rattle.bench_promises.specs.declared.replies.SendRefusal.{SendRefusal}
+use Rattle.bench_promises.specs.declared.replies.ArriveRefusal.{ArriveRefusal}
+use Rattle.bench_promises.specs.declared.replies.Receipt.{Receipt}
 use Rattle.bench_promises.specs.Replies.{send_answer, arrive_answer}
 use Rattle.bench_promises.specs.State.{Bench, bench, hop_records, log_book}
 use Rattle.bench_promises.specs.Promises.{after, OfHops, OfBook, SendPromise, ArrivePromise}
@@ -66,7 +68,7 @@ first-book W bk of = record {
 
 -- ---- the promise of the whole list, from that of its first places
 
-send-whole_list : (b left : Bench) (s g w : ℕ) (hs hs' : List Hop) (r : SendReply) → 2000 ≤ length hs
+send-whole_list : (b left : Bench) (s g w : ℕ) (hs hs' : List Hop) (r : Result ℕ SendRefusal) → 2000 ≤ length hs
     → SendPromise b s g w (take 2000 hs) r left hs' → SendPromise b s g w hs r left (hs' ++ drop 2000 hs)
 send-whole_list b left s g w hs hs' r whole x = record {
   refused = λ number e. let y = x.refused number e in (y.0, same 2000 hs y.1);
@@ -80,7 +82,7 @@ send-whole_list b left s g w hs hs' r whole x = record {
       };
 }
 
-arrive-whole-lists : (b left : Bench) (j : ℕ) (hs hs' : List Hop) (bk bk' : List ℕ) (r : ArriveReply)
+arrive-whole-lists : (b left : Bench) (j : ℕ) (hs hs' : List Hop) (bk bk' : List ℕ) (r : Result Receipt ArriveRefusal)
     → 2000 ≤ length hs → 6400 ≤ length bk
     → ArrivePromise b j (take 2000 hs) (take 6400 bk) r left hs' bk'
     → ArrivePromise b j hs bk r left (hs' ++ drop 2000 hs) (bk' ++ drop 6400 bk)

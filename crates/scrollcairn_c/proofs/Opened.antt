@@ -2,45 +2,45 @@
 -- lent begin with those of a fresh bench.
 use mathlib.Core.Path.{◌≡◌, refl, sym, ap, ◌∙◌}
 use mathlib.Core.Logic.{⊎_elim}
-use mathlib.Core.Bool.{Bool, true, false, not}
-use mathlib.Core.List.{List, [], ◌∷◌, ◌++◌}
-use Prim.Native.Nat.{ℕ, zero, suc, ◌≤◌}
-use native.Mathlib.Nat.{not-suc-le-zero, le_of_suc-le-suc, suc-ne-zero, mod-eq_of_lt, zero-add}
+use mathlib.Core.Bool.{Bool, true, false}
+use mathlib.Core.List.{List, [], ◌∷◌, ◌++◌, append-nil}
+use Prim.Native.Nat.{ℕ, ◌≤◌}
+use native.Mathlib.Nat.{suc-ne-zero, lt_irrefl, mod-eq_of_lt, zero-add}
 use native.Mathlib.Omega.{arith}
-use borrow.Author.Tests.{le-ltb, eqb-true, eqb-false}
-use lib.ListN.{length, get_or, take, drop}
-use lib.Dec.{eqb}
-use lib.Seq.{sets, sets-eq}
-use Rattle.sets.proofs.Bools.{either, false_of_not}
-use Rattle.sets.proofs.Members.{lowest-within}
-use Rattle.layout.specs.Tables.{tabulate}
+use lib.ListN.{length, get_or, take, drop, replicate, length-replicate}
+use lib.Seq.{sets, sets-eq, length-take-le}
+use Rattle.std.specs.Prelude.{Result, Ok, Err}
+use Rattle.std.proofs.lemmas.List.{drop_all}
+use Rattle.text.specs.Writing.{reach}
+use Rattle.text.proofs.Written.{written-full}
+use Rattle.sets.proofs.Bools.{either}
+use Rattle.sets.proofs.Visits.{lowest-within}
 use Rattle.layout.proofs.Tables.{length-tabulate}
 use Rattle.forest.specs.Calls.{refuse, groups_refusal, drawing_refusal, check_refusal, check_parents, counted, drawn}
 use Rattle.forest.specs.Forest.{without_primary}
 use Rattle.model.specs.declared.Hop.{Hop}
 use Rattle.model.specs.Network.{Plan, Network, fresh_on, ledger_of, hops_of, messages_of, sum_of, count_hops}
 use Rattle.model.specs.Rules.{route_total}
-use Rattle.bench_promises.specs.declared.replies.FreshReply.{FreshReply}
+use Rattle.bench_promises.specs.declared.replies.ListTooShort.{ListTooShort}
 use Rattle.bench_promises.specs.State.{Bench, hop_records, log_book, bench_of, totals_of}
 use Rattle.bench_promises.specs.Promises.{fresh_network, FreshPromise}
 use Rattle.c_answers.specs.Answers.{unless_refused}
 use Rattle.c_answers.specs.Replies.{reply_of, open_numbers, low_bits}
+use Rattle.c_answers.specs.declared.replies.Reply.{Reply}
 use Rattle.scrollcairn_c.specs.Live.{step_of, Lists, lists, is_open_short, open_refusal, open_plan, fresh_in, OpenExported}
-use Rattle.scrollcairn_c.specs.Opening.{group_table, drawing, looked_at, is_refused, no_totals, opened_as, stored_pairs}
+use Rattle.scrollcairn_c.specs.Opening.{group_table, drawing, unless_told, looked_at, no_totals, opened_as}
 use Rattle.scrollcairn_c.specs.declared.opening.Opening.{Opening}
 use Rattle.scrollcairn_c.proofs.Whole.{open_long, arrive-long, send-long, tables-length, messages-length}
 
-true_of_not : (b : Bool) → not b ≡ false → b ≡ true
-true_of_not true e = refl
-true_of_not false e = sym e
-
 -- ---- the first of a list, as a table
 
-table-take : (n d : ℕ) (l : List ℕ) → n ≤ length l → tabulate n (λ i. get_or l i d) ≡ take n l
-unfolding tabulate
-table-take zero d l h = refl
-table-take (suc n) d [] h = absurd (not-suc-le-zero h)
-table-take (suc n) d (x ∷ l) h = ap (λ (r : List ℕ). x ∷ r) (table-take n d l (le_of_suc-le-suc h))
+table-take : (n d : ℕ) (l : List ℕ) → n ≤ length l → sets (replicate n d) 0 l ≡ take n l
+table-take n d l h =
+    let none : drop n (replicate n d) ≡ [] = drop_all n (replicate n d) (omega (arith, length-replicate n d)) in
+    let list : List ℕ = replicate n d in
+    (written-full {t = l} {list = list} {left = sets list 0 l} {place = reach 0 (length l) (length list)}
+    (record { ends = refl; holds = refl })).1
+    ∙ rw (length-replicate n d, length-take-le n l h, none) (append-nil (take n l))
 
 -- ---- the refusal of a drawn forest: its numbers have 16 bits, the first is not 0
 
@@ -66,17 +66,37 @@ told-check n c gs ps =
     (record { small = ap (λ (x : ℕ). 11 ∷ x ∷ []) (mod-eq_of_lt (omega (arith, low))); none = λ e. absurd (suc-ne-zero _ e) })
     (record { small = refl; none = λ _. refl }))))))
 
+-- ---- a forest that was looked at, by what it is told
+
+reply_in : Reply → Result Opening Reply → Reply
+reply_in other (Ok o) = other
+reply_in other (Err r) = r
+
+opening_in : Opening → Result Opening Reply → Opening
+opening_in other (Ok o) = o
+opening_in other (Err r) = other
+
+told-refused : (l : List ℕ) (o : Opening) (r : Reply) → low_bits l ≡ l → unless_told l o ≡ Err r
+    → r ≡ reply_of (open_numbers l)
+unfolding unless_told reply_of open_numbers low_bits reply_in
+told-refused [] o r small e = let z : ◌≡◌ {A = ℕ} 0 1 = cc in absurd (lt_irrefl 0 (omega arith))
+told-refused (n ∷ vs) o r small e =
+    ap (reply_in r) (sym e) ∙ ap (λ (l : List ℕ). reply_of (open_numbers l)) small
+
+refused-stays : {A : Type 0} (l : List ℕ) (o : Opening) (r : Reply) (x y : A) → unless_told l o ≡ Err r → y ≡ unless_refused l x y
+unfolding unless_told unless_refused
+refused-stays [] o r x y e = let z : ◌≡◌ {A = ℕ} 0 1 = cc in absurd (lt_irrefl 0 (omega arith))
+refused-stays (n ∷ vs) o r x y e = refl
+
+told-accepted : (l : List ℕ) (o o' : Opening) → unless_told l o ≡ Ok o' → (l ≡ []) × (o' ≡ o)
+unfolding unless_told opening_in
+told-accepted [] o o' e = (refl, ap (opening_in o) (sym e))
+told-accepted (n ∷ vs) o o' e = let z : ◌≡◌ {A = ℕ} 0 1 = cc in absurd (lt_irrefl 0 (omega arith))
+
 -- ---- lists put first in longer ones
 
-put_first : (n : ℕ) (l x : List ℕ) → length x ≡ n → n ≤ length l → sets l 0 x ≡ x ++ drop n l
+put_first : {A : Type 0} (n : ℕ) (l x : List A) → length x ≡ n → n ≤ length l → sets l 0 x ≡ x ++ drop n l
 put_first n l x e h = sets-eq x l 0 (omega (arith, e, h)) ∙ ap (λ (i : ℕ). x ++ drop i l) (zero-add (length x) ∙ e)
-
-pairs_first : (l : List (List (List ℕ))) (x y : List (List ℕ)) → 2 ≤ length l
-    → stored_pairs l (x ∷ y ∷ []) ≡ x ∷ y ∷ drop 2 l
-unfolding stored_pairs
-pairs_first [] x y h = absurd (not-suc-le-zero h)
-pairs_first (a ∷ []) x y h = absurd (not-suc-le-zero (le_of_suc-le-suc h))
-pairs_first (a ∷ b ∷ l) x y h = rw (le-ltb (length (a ∷ b ∷ l)) 2 h)
 
 -- ---- what the call says
 
@@ -90,8 +110,12 @@ module _ (units count : ℕ) (fs qs : List ℕ) (k : Lists) where
   abbrev P : Plan
   P = open_plan units count fs qs
 
-  abbrev looked : Opening
+  abbrev looked : Result Opening Reply
   looked = looked_at short units count fs qs
+
+  -- the forest, as it stands in the tables
+  abbrev forest : Opening
+  forest = record { groups = group_table fs; parents = check_parents units count (group_table fs) (drawing qs) }
 
   -- the lengths, where no list is too short
   pub record Long : Type 0 where
@@ -126,21 +150,12 @@ module _ (units count : ℕ) (fs qs : List ℕ) (k : Lists) where
   unfolding drawing
   first-parents x = table-take 32 255 qs x.parents
 
-  says : looked.reply ≡ reply_of (open_numbers R)
-  unfolding looked_at open_refusal open_numbers reply_of
-  says = ⊎_elim
+  looked-told : looked ≡ unless_told R forest
+  unfolding looked_at open_refusal
+  looked-told = ⊎_elim
       (λ (e : short ≡ true). rw e)
-      (λ (e : short ≡ false). let x = lengths e in
-      rw (e, first-groups x, first-parents x, (told-check units count (take 24 fs) (take 32 qs)).small))
+      (λ (e : short ≡ false). let x = lengths e in rw (e, first-groups x, first-parents x))
       (either short)
-
-  number_of : get_or (open_numbers R) 0 0 ≡ get_or R 0 0
-  unfolding open_numbers
-  number_of = at R
-    where
-      at : (l : List ℕ) → get_or (open_numbers l) 0 0 ≡ get_or l 0 0
-      at [] = refl
-      at (n ∷ vs) = refl
 
   told : Told R
   unfolding open_refusal low_bits
@@ -149,36 +164,29 @@ module _ (units count : ℕ) (fs qs : List ℕ) (k : Lists) where
       (λ (e : short ≡ false). rw e (told-check units count (take 24 fs) (take 32 qs)))
       (either short)
 
-  number_is : looked.reply.refusal ≡ get_or R 0 0
-  unfolding reply_of
-  number_is = ap (λ r. r.refusal) says ∙ number_of
-
   fresh-totals : no_totals ≡ (bench_of (fresh_on P)).totals
   unfolding no_totals bench_of totals_of fresh_on ledger_of hops_of messages_of sum_of count_hops route_total
   fresh-totals = refl
 
-  answered : opened_as looked ≡ step_of (bench_of (fresh_on P)).totals (open_numbers R)
+  answered : (r : Reply) → r ≡ reply_of (open_numbers R)
+      → opened_as r ≡ step_of (bench_of (fresh_on P)).totals (open_numbers R)
   unfolding opened_as step_of
-  answered = λ i. record { totals = fresh-totals i; reply = says i }
+  answered r e = λ i. record { totals = fresh-totals i; reply = e i }
 
-  refused-stays : {A : Type 0} (l : List ℕ) (x y : A) → (get_or l 0 0 ≡ 0 → ⊥) → y ≡ unless_refused l x y
-  unfolding unless_refused
-  refused-stays [] x y some = absurd (some refl)
-  refused-stays (n ∷ vs) x y some = refl
-
-  pub open_refused : is_refused looked ≡ true → OpenExported units count fs qs k (opened_as looked) k
-  unfolding is_refused
-  open_refused e = record {
-    answers = answered;
-    leaves = refused-stays R _ k (λ z. eqb-false _ _ (false_of_not _ e) (number_is ∙ z));
+  pub open_refused : (r : Reply) → looked ≡ Err r → OpenExported units count fs qs k (opened_as r) k
+  open_refused r e = let turned = sym looked-told ∙ e in record {
+    answers = answered r (told-refused R forest r told.small turned);
+    leaves = refused-stays R forest r _ k turned;
   }
 
   -- ---- and what it leaves where a bench is opened
 
-  module _ (opens : is_refused looked ≡ false) where
+  module _ (o : Opening) (opens : looked ≡ Ok o) where
     no_refusal : R ≡ []
-    unfolding is_refused
-    no_refusal = told.none (sym number_is ∙ eqb-true _ _ (true_of_not (eqb looked.reply.refusal 0) opens))
+    no_refusal = (told-accepted R forest o (sym looked-told ∙ opens)).0
+
+    forest-is : o ≡ forest
+    forest-is = (told-accepted R forest o (sym looked-told ∙ opens)).1
 
     whole : Long
     unfolding open_refusal
@@ -188,39 +196,40 @@ module _ (units count : ℕ) (fs qs : List ℕ) (k : Lists) where
         (λ (e : short ≡ false). lengths e)
         (either short)
 
-    module _ (r : FreshReply) (X : Bench) (hs : List Hop) (bk : List ℕ)
-        (promise : FreshPromise units count looked.groups looked.parents k.hops k.book r X hs bk) where
-      plan-is : fresh_network units count looked.groups looked.parents ≡ fresh_on P
-      unfolding looked_at open_plan
-      plan-is = λ i. fresh_on (record {
-        units = units;
-        count = count;
-        groups = first-groups whole i;
-        parents = check_parents units count (first-groups whole i) (first-parents whole i);
-      })
+    module _ (r : Result Unit ListTooShort) (X : Bench) (hs : List Hop) (bk : List ℕ)
+        (promise : FreshPromise units count o.groups o.parents k.hops k.book r X hs bk) where
+      plan-is : fresh_network units count o.groups o.parents ≡ fresh_on P
+      unfolding open_plan
+      plan-is = ap (λ (q : Opening). fresh_network units count q.groups q.parents) forest-is
+          ∙ (λ i. fresh_on (record {
+            units = units;
+            count = count;
+            groups = first-groups whole i;
+            parents = check_parents units count (first-groups whole i) (first-parents whole i);
+          }))
 
       bench-is : X ≡ bench_of (fresh_on P)
       bench-is = promise.bench ∙ ap bench_of plan-is
 
-      pub open_made : OpenExported units count fs qs k (opened_as looked)
-          (lists (sets k.tables 0 X.tables) (sets k.messages 0 X.messages) (stored_pairs k.pairs X.pairs)
+      pub open_made : (s : Reply) → s ≡ reply_of (0 ∷ 8 ∷ 0 ∷ []) → OpenExported units count fs qs k (opened_as s)
+          (lists (sets k.tables 0 X.tables) (sets k.messages 0 X.messages) (sets k.pairs 0 X.pairs)
           (sets k.gauges 0 X.gauges) hs bk)
-      unfolding unless_refused fresh_in bench_of fresh_on ledger_of
-      open_made = record {
-        answers = answered;
+      unfolding open_numbers unless_refused fresh_in bench_of fresh_on ledger_of
+      open_made s e = record {
+        answers = answered s (e ∙ ap (λ (l : List ℕ). reply_of (open_numbers l)) (sym no_refusal));
         leaves = made ∙ sym (ap (λ (l : List ℕ). unless_refused l (fresh_in P k) k) no_refusal);
       }
         where
-          put : (n : ℕ) (f : Bench → List ℕ) (l : List ℕ) → length (f (bench_of (fresh_on P))) ≡ n → n ≤ length l
+          put : {A : Type 0} (n : ℕ) (f : Bench → List A) (l : List A) → length (f (bench_of (fresh_on P))) ≡ n → n ≤ length l
               → sets l 0 (f X) ≡ f (bench_of (fresh_on P)) ++ drop n l
           put n f l e h = ap (λ (b : Bench). sets l 0 (f b)) bench-is ∙ put_first n l (f (bench_of (fresh_on P))) e h
 
-          made : lists (sets k.tables 0 X.tables) (sets k.messages 0 X.messages) (stored_pairs k.pairs X.pairs)
+          made : lists (sets k.tables 0 X.tables) (sets k.messages 0 X.messages) (sets k.pairs 0 X.pairs)
               (sets k.gauges 0 X.gauges) hs bk ≡ fresh_in P k
           made = λ i. record {
             tables = put 140 (λ b. b.tables) k.tables (tables-length P.units P.count P.groups P.parents) whole.tables i;
             messages = put 600 (λ b. b.messages) k.messages (messages-length _) whole.messages i;
-            pairs = (ap (λ (b : Bench). stored_pairs k.pairs b.pairs) bench-is ∙ pairs_first k.pairs _ _ whole.pairs) i;
+            pairs = put 2 (λ b. b.pairs) k.pairs refl whole.pairs i;
             gauges = put 32 (λ b. b.gauges) k.gauges (length-tabulate 32 _) whole.gauges i;
             hops = ((promise.whole whole.hops whole.book).1 ∙ ap (λ (W : Network). hop_records W ++ drop 2000 k.hops) plan-is) i;
             book = ((promise.whole whole.hops whole.book).2 ∙ ap (λ (W : Network). log_book W ++ drop 6400 k.book) plan-is) i;

@@ -1,18 +1,19 @@
 -- The live calls where a lent list is too short: nothing changes, and the promise is kept, since those lists are no bench of the rules.
 use mathlib.Core.Path.{◌≡◌, refl}
 use mathlib.Core.Bool.{true}
-use mathlib.Core.List.{List, []}
+use mathlib.Core.List.{List, [], ◌∷◌}
 use Prim.Native.Nat.{ℕ}
 use native.Mathlib.Omega.{arith}
 use lib.ListN.{length}
+use Rattle.std.specs.Prelude.{Err}
 use Rattle.sets.proofs.Bools.{clash}
 use Rattle.model.specs.Network.{Plan}
 use Rattle.model.specs.Rules.{Refused}
 use Rattle.model.specs.Calls.{Call}
 use Rattle.bench_promises.specs.declared.Totals.{Totals}
-use Rattle.bench_promises.specs.declared.replies.SendReply.TheVariants.{ListTooShort as SendTooShort}
-use Rattle.bench_promises.specs.declared.replies.ArriveReply.TheVariants.{ListTooShort as ArriveTooShort}
-use Rattle.bench_promises.specs.declared.replies.LogReply.TheVariants.{ListTooShort as LogTooShort}
+use Rattle.bench_promises.specs.declared.replies.SendRefusal.TheVariants.{ListTooShort as SendTooShort}
+use Rattle.bench_promises.specs.declared.replies.ArriveRefusal.TheVariants.{ListTooShort as ArriveTooShort}
+use Rattle.bench_promises.specs.declared.replies.LogRefusal.TheVariants.{ListTooShort as LogTooShort}
 use Rattle.bench_promises.specs.Replies.{send_answer, arrive_answer, log_answer}
 use Rattle.bench_promises.specs.State.{bench_of}
 use Rattle.bench_promises.specs.Promises.{after, OfHops, OfBook}
@@ -32,7 +33,7 @@ pub send-refused : (t : Totals) (s g w : ℕ) (l : Lists) → is_send_short l �
     → SendExported t s g w l (step_of t (answer_numbers (Refused 1))) l
 unfolding step_of send_answer
 send-refused t s g w l short = record {
-  said = SendTooShort;
+  said = Err SendTooShort;
   answers = refl;
   short = λ _. refl;
   promise = record {
@@ -56,7 +57,7 @@ pub arrive-refused : (t : Totals) (j : ℕ) (l : Lists) → is_arrive_short l �
     → ArriveExported t j l (step_of t (answer_numbers (Refused 1))) l
 unfolding step_of arrive_answer
 arrive-refused t j l short = record {
-  said = ArriveTooShort;
+  said = Err ArriveTooShort;
   answers = refl;
   short = λ _. refl;
   promise = record {
@@ -88,10 +89,10 @@ module _ (unit : ℕ) (ts gs book : List ℕ) (short : log_short (length ts) (le
     };
   }
 
-  pub length-refused : LengthExported unit ts gs book (reply_of (length_numbers (log_answer LogTooShort)))
-  unfolding log_answer
+  pub length-refused : LengthExported unit ts gs book (reply_of (1 ∷ 0 ∷ 0 ∷ []))
+  unfolding log_answer length_numbers
   length-refused = record {
-    said = LogTooShort;
+    said = Err LogTooShort;
     answers = refl;
     short = λ _. refl;
     promise = λ t ms ps. record { short = λ _. refl; rule = λ P planned cs e of. absurd (no_log t ms ps P cs e of) };

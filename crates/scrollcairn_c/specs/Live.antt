@@ -2,16 +2,17 @@
 -- its totals, by value, and lists of the caller's; of each list the first places are used, and the others always stay. What a call does
 -- with them is the promise of the bench's own call, under the one premise told there (bench_promises/specs/Promises.antt); what `open`
 -- does is fixed for every input.
-use Rattle.std.specs.Prelude.{ℕ, ◌≡◌, Bool, true, cond, ◌||◌, List, [], ◌∷◌, ◌++◌, length, take, drop, ltb}
+use Rattle.std.specs.Prelude.{ℕ, ◌≡◌, Bool, true, cond, ◌||◌, List, [], ◌∷◌, ◌++◌, length, take, drop, ltb, Result}
 use Rattle.forest.specs.Calls.{check_refusal, check_parents}
 use Rattle.model.specs.declared.Hop.{Hop}
 use Rattle.model.specs.Network.{Plan, fresh_on}
 use Rattle.model.specs.Rules.{Refused}
 use Rattle.bench_promises.specs.declared.Totals.{Totals}
-use Rattle.bench_promises.specs.declared.replies.SendReply.{SendReply}
-use Rattle.bench_promises.specs.declared.replies.ArriveReply.{ArriveReply}
-use Rattle.bench_promises.specs.declared.replies.LogReply.{LogReply}
-use Rattle.bench_promises.specs.declared.replies.RestReply.{RestReply}
+use Rattle.bench_promises.specs.declared.replies.ListTooShort.{ListTooShort}
+use Rattle.bench_promises.specs.declared.replies.SendRefusal.{SendRefusal}
+use Rattle.bench_promises.specs.declared.replies.ArriveRefusal.{ArriveRefusal}
+use Rattle.bench_promises.specs.declared.replies.Receipt.{Receipt}
+use Rattle.bench_promises.specs.declared.replies.LogRefusal.{LogRefusal}
 use Rattle.bench_promises.specs.Replies.{send_answer, arrive_answer, LengthRefused, log_answer, rest_answer}
 use Rattle.bench_promises.specs.State.{Bench, bench, bench_of, hop_records, log_book}
 use Rattle.bench_promises.specs.Promises.{SendPromise, ArrivePromise, PartPromise, LengthPromise, RestPromise}
@@ -115,7 +116,7 @@ pub record OpenExported (units count : ℕ) (groups parents : List ℕ) (before 
 -- ---- send, and arrive
 
 pub record SendExported (t : Totals) (source group word : ℕ) (before : Lists) (r : Step) (left : Lists) : Type 0 where
-  pub said : SendReply
+  pub said : Result ℕ SendRefusal
   pub answers : r.reply ≡ reply_of (answer_numbers (send_answer said))
   pub short : is_send_short before ≡ true → send_answer said ≡ Refused 1
   pub promise : SendPromise (bench_in t before) source group word before.hops said (bench_in r.totals left) left.hops
@@ -123,7 +124,7 @@ pub record SendExported (t : Totals) (source group word : ℕ) (before : Lists) 
   pub rest-stays : beyond left ≡ beyond before
 
 pub record ArriveExported (t : Totals) (hop : ℕ) (before : Lists) (r : Step) (left : Lists) : Type 0 where
-  pub said : ArriveReply
+  pub said : Result Receipt ArriveRefusal
   pub answers : r.reply ≡ reply_of (answer_numbers (arrive_answer said))
   pub short : is_arrive_short before ≡ true → arrive_answer said ≡ Refused 1
   pub promise : ArrivePromise (bench_in t before) hop before.hops before.book said (bench_in r.totals left) left.hops
@@ -139,7 +140,7 @@ pub record LogExported (unit : ℕ) (tables gauges book : List ℕ) (r : Part) :
       → PartPromise (bench_in t (lists tables messages pairs gauges [] book)) unit book r.start r.length
 
 pub record LengthExported (unit : ℕ) (tables gauges book : List ℕ) (r : Reply) : Type 0 where
-  pub said : LogReply
+  pub said : Result ℕ LogRefusal
   pub answers : r ≡ reply_of (length_numbers (log_answer said))
   pub short : log_short (length tables) (length gauges) (length book) ≡ true → log_answer said ≡ LengthRefused 1
   pub promise : (t : Totals) (messages : List ℕ) (pairs : List (List (List ℕ)))
@@ -148,7 +149,7 @@ pub record LengthExported (unit : ℕ) (tables gauges book : List ℕ) (r : Repl
 -- ---- rest
 
 pub record RestExported (t : Totals) (hops : List Hop) (r : Reply) : Type 0 where
-  pub said : RestReply
+  pub said : Result Bool ListTooShort
   pub answers : r ≡ reply_of (rest_numbers (rest_answer said))
   pub promise : (tables messages : List ℕ) (pairs : List (List (List ℕ))) (gauges : List ℕ)
       → RestPromise (bench t tables messages pairs gauges) hops said

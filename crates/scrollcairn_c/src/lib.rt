@@ -17,8 +17,7 @@ ghost use Rattle.scrollcairn_c.specs.Exported.{CallsExported};
 pub extern "C" fn scrollcairn_run(file: &[u8], out: &mut [u8], answer: &mut [u64; 3])
     ensures { RunExported file.now out.old out.new answer.new }
 {
-    let ran = runner::run(file, out);
-    answers::put(answers::of_run(ran), answer);
+    answers::put(answers::of_run(runner::run(file, out)), answer);
 }
 
 // Lays out a forest.
@@ -33,8 +32,7 @@ pub extern "C" fn scrollcairn_build(
     ensures { BuildExported units groups.now count parents.old parents.new
         answer.new }
 {
-    let table = *groups;
-    let built = forest::build(units, table, count);
+    let built = forest::build(units, *groups, count);
     answers::put_forest(built, parents, answer);
 }
 
@@ -51,9 +49,7 @@ pub extern "C" fn scrollcairn_check(
     ensures { CheckExported units groups.now count drawn.now parents.old parents.new
         answer.new }
 {
-    let table = *groups;
-    let drawing = *drawn;
-    let checked = forest::check(units, table, count, drawing);
+    let checked = forest::check(units, *groups, count, *drawn);
     answers::put_forest(checked, parents, answer);
 }
 
@@ -71,16 +67,13 @@ pub extern "C" fn scrollcairn_read(
         parents.old counts.old
         events.new groups.new parents.new counts.new answer.new }
 {
-    let read = benchfile::read(file, events);
-    let reply = read.reply;
-    let content = read.content;
-    let told = answers::of_read(reply);
-    if told.refusal != 0 {
-        answers::put(told, answer);
-        return;
+    match benchfile::read(file, events) {
+        Ok(read) => {
+            contents::put(read.content, groups, parents, counts);
+            answers::put(c_answers::told(0, read.numbers, read.line), answer);
+        }
+        Err(refusal) => answers::put(answers::of_unread(refusal), answer),
     }
-    contents::put(content, groups, parents, counts);
-    answers::put(told, answer);
 }
 
 // Writes a bench file.

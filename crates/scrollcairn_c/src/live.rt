@@ -7,10 +7,10 @@ use crate::steps::Step;
 use crate::{opening, steps};
 use bench::Bench;
 use bench_engine::Part;
-use bench_promises::{LogReply, Totals};
+use bench_promises::Totals;
 use bench_store::Limits;
 use bench_store::columns::{Gauges, Messages};
-use bench_store::counts::PairCounts;
+use bench_store::counts::{Grid, PairCounts};
 use c_answers::replies;
 use c_answers::replies::Reply;
 use forest_tables::Tables;
@@ -24,7 +24,7 @@ pub extern "C" fn scrollcairn_open(
     parents: &[u8],
     tables: &mut [u32],
     messages: &mut [u32],
-    pairs: &mut [[[u16; Limits::UNITS]; Limits::UNITS]],
+    pairs: &mut [Grid],
     gauges: &mut [u16],
     hops: &mut [model::Hop],
     book: &mut [u16],
@@ -45,15 +45,14 @@ pub extern "C" fn scrollcairn_open(
         hops.len(),
         book.len(),
     );
-    let looked = opening::look(short, units, groups, count, parents);
-    if opening::is_refused(looked) {
-        return opening::step(looked);
+    match opening::look(short, units, groups, count, parents) {
+        Ok(forest) => {
+            let fresh = Bench::fresh(units, forest.groups, count, forest.parents, hops, book);
+            opening::store(fresh, tables, messages, pairs, gauges);
+            opening::step(replies::told(8, 0))
+        }
+        Err(refused) => opening::step(refused),
     }
-    let table = opening::groups_of(looked);
-    let accepted = opening::parents_of(looked);
-    let fresh = Bench::fresh(units, table, count, accepted, hops, book);
-    opening::store(fresh, tables, messages, pairs, gauges);
-    opening::step(looked)
 }
 
 // Sends a message.
@@ -65,7 +64,7 @@ pub extern "C" fn scrollcairn_send(
     word: u32,
     tables: &mut [u32],
     messages: &mut [u32],
-    pairs: &mut [[[u16; Limits::UNITS]; Limits::UNITS]],
+    pairs: &mut [Grid],
     hops: &mut [model::Hop],
 ) -> Step
     ensures { (gauges book : List ℕ) → SendExported totals source group word
@@ -95,7 +94,7 @@ pub extern "C" fn scrollcairn_arrive(
     hop: u16,
     tables: &mut [u32],
     messages: &mut [u32],
-    pairs: &mut [[[u16; Limits::UNITS]; Limits::UNITS]],
+    pairs: &mut [Grid],
     gauges: &mut [u16],
     hops: &mut [model::Hop],
     book: &mut [u16],
@@ -154,7 +153,7 @@ pub extern "C" fn scrollcairn_log_length(
     ensures { LengthExported unit tables.now gauges.now book.now result }
 {
     if steps::is_log_short(tables.len(), gauges.len(), book.len()) {
-        return replies::of_length(LogReply::ListTooShort);
+        return replies::refused(1);
     }
     let reply = bench_engine::log_length(
         unit,
@@ -162,7 +161,7 @@ pub extern "C" fn scrollcairn_log_length(
         &gauges[..Gauges::SIZE],
         book,
     );
-    replies::of_length(reply)
+    Reply::from(reply)
 }
 
 // Is the bench at rest?

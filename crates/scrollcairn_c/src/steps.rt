@@ -25,11 +25,9 @@ pub struct Step {
 pub fn after_send(sent: bench_engine::Sent) -> Step
     ensures { result ≡ step_of sent.totals (answer_numbers (send_answer sent.reply)) }
 {
-    let totals = sent.totals;
-    let reply = sent.reply;
     Step {
-        totals,
-        reply: replies::of_send(reply),
+        totals: sent.totals,
+        reply: Reply::from(sent.reply),
     }
 }
 
@@ -37,11 +35,9 @@ pub fn after_send(sent: bench_engine::Sent) -> Step
 pub fn after_arrive(arrived: bench_engine::Arrived) -> Step
     ensures { result ≡ step_of arrived.totals (answer_numbers (arrive_answer arrived.reply)) }
 {
-    let totals = arrived.totals;
-    let reply = arrived.reply;
     Step {
-        totals,
-        reply: replies::of_arrive(reply),
+        totals: arrived.totals,
+        reply: Reply::from(arrived.reply),
     }
 }
 
@@ -49,7 +45,7 @@ pub fn after_arrive(arrived: bench_engine::Arrived) -> Step
 pub fn after_rest(reply: RestReply) -> Reply
     ensures { result ≡ reply_of (rest_numbers (rest_answer reply)) }
 {
-    replies::of_rest(reply)
+    Reply::from(reply)
 }
 
 // What `send` and `arrive` say where a lent list is too short.
@@ -58,29 +54,23 @@ pub fn short(totals: Totals) -> Step
 {
     Step {
         totals,
-        reply: Reply {
-            refusal: 1,
-            kind: 0,
-            value: 0,
-        },
+        reply: replies::refused(1),
     }
 }
 
+// Whether a list lent to `send` is too short. The lengths stand apart here and below, as the lists do in the C calls.
+#[tactic(auto, unfolding(crate::specs::Live::send_short))]
 pub fn is_send_short(tables: usize, messages: usize, pairs: usize, hops: usize) -> bool
     ensures { result ≡ send_short tables messages pairs hops }
 {
-    if tables < Tables::SIZE {
-        return true;
-    }
-    if messages < Messages::SIZE {
-        return true;
-    }
-    if pairs < PairCounts::SIZE {
-        return true;
-    }
-    hops < Limits::HOPS
+    tables < Tables::SIZE
+        || messages < Messages::SIZE
+        || pairs < PairCounts::SIZE
+        || hops < Limits::HOPS
 }
 
+// Whether a list lent to `arrive` is too short.
+#[tactic(auto, unfolding(crate::specs::Live::arrive_short))]
 pub fn is_arrive_short(
     tables: usize,
     messages: usize,
@@ -91,23 +81,13 @@ pub fn is_arrive_short(
 ) -> bool
     ensures { result ≡ arrive_short tables messages pairs gauges hops book }
 {
-    if gauges < Gauges::SIZE {
-        return true;
-    }
-    if book < Limits::BOOK {
-        return true;
-    }
-    is_send_short(tables, messages, pairs, hops)
+    gauges < Gauges::SIZE || book < Limits::BOOK || is_send_short(tables, messages, pairs, hops)
 }
 
+// Whether a list lent to either log call is too short.
+#[tactic(auto, unfolding(crate::specs::Live::log_short))]
 pub fn is_log_short(tables: usize, lengths: usize, book: usize) -> bool
     ensures { result ≡ log_short tables lengths book }
 {
-    if tables < Tables::SIZE {
-        return true;
-    }
-    if lengths < Gauges::SIZE {
-        return true;
-    }
-    book < Limits::BOOK
+    tables < Tables::SIZE || lengths < Gauges::SIZE || book < Limits::BOOK
 }

@@ -5,7 +5,8 @@ use mathlib.Core.Bool.{Bool, true, false, not, ◌&&◌, ◌||◌, cond, or-fals
 use Prim.Native.Nat.{ℕ, zero, suc, ◌+◌, ◌-◌, ◌*◌, ◌/◌, ◌%◌, ◌^◌, ◌≤◌, ◌<◌, min, max, zero-le}
 use Prim.Native.Nat.{suc-le-suc}
 use native.Mathlib.Nat.{div-one, div-div-eq-div-mul, pow-suc, mul_comm, mod-lt, le_of_suc-le-suc, zero-lt-suc, not-suc-le-zero}
-use native.Mathlib.Nat.{lt_of_le_of_lt, le_trans, zero-div, one-mul, mod-eq_of_lt, le-suc, le_of_eq, le_refl}
+use native.Mathlib.Nat.{le_of_lt, lt_of_le_of_lt, le_trans, zero-div, one-mul, mod-eq_of_lt, le-suc, le_of_eq, le_refl}
+use native.Mathlib.Numerals.{add-one}
 use native.Mathlib.Omega.{arith}
 use native.Mathlib.Decide.{ℕ_discrete, dec_lt}
 use borrow.Author.Tests.{lt-ltb, le-ltb, eq-eqb, ne_eqb, eqb-true, ltb-true}
@@ -150,6 +151,10 @@ not-member k s u h l = ⊎_elim
     (λ (m : member s u ≡ true). let b = member_below k s u h m in absurd (not-suc-le-zero (let z : 1 ≤ 0 = omega arith in z)))
     (λ m. m) (either (member s u))
 
+-- no number from 32 on is a member
+pub member_past : (s u : ℕ) → s < 2 ^ 32 → 32 ≤ u → ltb u 32 ≡ member s u
+member_past s u b h = le-ltb u 32 h ∙ sym (not-member 32 s u b h)
+
 -- two sets are equal where they have the same members
 pub same-members : (k s t : ℕ) → s < 2 ^ k → t < 2 ^ k → ((u : ℕ) → u < k → member s u ≡ member t u) → s ≡ t
 same-members zero s t hs ht e = lt-one hs ∙ sym (lt-one ht)
@@ -230,6 +235,14 @@ unfolding collect
 collect-below zero f = pow_pos 32
 collect-below (suc k) f = including_if-below (collect k f) k (f k) (collect-below k f)
 
+-- one turn of a loop that collects the numbers that pass a test: b is what the test said of i
+pub collect-turn : (f : ℕ → Bool) {i s r : ℕ} {b : Bool} → s ≡ collect i f → b ≡ f i → r ≡ including_if s i b
+    → r ≡ collect (i + 1) f
+unfolding collect
+collect-turn f {i} {s} {r} {b} hs hb hr =
+    hr ∙ ap (λ (x : ℕ). including_if x i b) hs ∙ ap (including_if (collect i f) i) hb
+    ∙ ap (λ (n : ℕ). collect n f) (sym (add-one i))
+
 member-below-set : (n u : ℕ) → member (below n) u ≡ (ltb u 32 && ltb u n)
 unfolding below
 member-below-set n u = member-collect 32 (λ v. ltb v n) u (lit≤ tt)
@@ -266,6 +279,10 @@ pub below_all : (n : ℕ) → 32 ≤ n → below 32 ≡ below n
 below_all n h = same-members 32 (below 32) (below n) (below-below 32) (below-below n)
     (λ u b. member-below-set 32 u ∙ simp (lt-ltb u 32 b) (sym (lt-ltb u n (le_trans b h))) ∙ sym
     (member-below-set n u ∙ ap (λ (x : Bool). x && ltb u n) (lt-ltb u 32 b)))
+
+-- below 32 they are a one shifted to n's place, less one
+pub below_shift : (n : ℕ) → n < 32 → (1 * 2 ^ n) % 2 ^ 32 - 1 ≡ below n
+below_shift n h = ap (λ (x : ℕ). x - 1) (shift_one n h) ∙ below-is n (le_of_lt h)
 
 -- from 32 on they are all that a set can hold
 pub below_full : (n : ℕ) → 32 ≤ n → 4294967295 ≡ below n

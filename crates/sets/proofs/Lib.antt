@@ -1,3 +1,3 @@
 pub mod Bools
 pub mod Laws
-pub mod Members
+pub mod Visits

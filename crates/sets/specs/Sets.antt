@@ -1,7 +1,8 @@
 -- Rules: a set of numbers below 32 (units, or groups) as one number, whose binary digit u says whether u is in the set.
 -- These are definitions, to be believed; their laws are in proofs/Laws.antt.
-use Rattle.std.specs.Prelude.{ℕ, zero, suc, ◌-◌, ◌/◌, ◌%◌, ◌^◌, Bool, cond, ltb, eqb}
+use Rattle.std.specs.Prelude.{◌≡◌, ◌<◌, ℕ, zero, suc, ◌-◌, ◌/◌, ◌%◌, ◌^◌, Bool, cond, ltb, eqb, Option}
 use Rattle.std.specs.Int.Bits.{bit_and, bit_or}
+use Rattle.std.specs.Option.{MatchOption}
 use Rattle.std.specs.Int.Count.{ones_in, count_trailing_zeros}
 
 -- u is a member of s
@@ -39,6 +40,12 @@ size s = ones_in 32 s
 -- the lowest member of s; 32 where s is empty
 unfoldable pub lowest : ℕ → ℕ
 lowest s = count_trailing_zeros 32 s
+
+-- what the iterator over the members gives: the lowest member of what is left, which is taken out; nothing where nothing is left
+abbrev pub TakesLowest : ℕ → Option ℕ → ℕ → Type 0
+TakesLowest left item after =
+    MatchOption item ((left ≡ 0) × (after ≡ 0))
+    (λ u. (0 < left) × (u < 32) × (u ≡ lowest left) × (after ≡ excluding left u))
 
 -- s with u where the test says so
 unfoldable pub including_if : ℕ → ℕ → Bool → ℕ

@@ -2,29 +2,26 @@
 // 32 on is in no set.
 #![tactic(auto)]
 
-ghost use Rattle.std.specs.Prelude.{◌≡◌};
+ghost use Rattle.std.specs.Prelude.{◌≡◌, ℕ, ◌<◌, Bool};
+ghost use Rattle.std.specs.Iterator.{at_most};
 ghost use Rattle.sets.specs.Sets.{member as isMember, union as unionOf, intersection as intersectionOf};
 ghost use Rattle.sets.specs.Sets.{difference as differenceOf, including as includingOf, excluding as excludingOf};
 ghost use Rattle.sets.specs.Sets.{single as singleOf, size as size_of, lowest as lowestOf, including_if, below as belowOf};
+ghost use Rattle.sets.specs.Sets.{collect as collectOf, TakesLowest};
 
 // Whether u is a member of s.
+#[tactic(auto, using(crate::proofs::Laws::member_past), unfolding(crate::specs::Sets::member))]
 pub fn member(s: u32, u: usize) -> bool
     ensures { result ≡ isMember s u }
 {
-    if 32 <= u {
-        return false;
-    }
-    (s >> u) % 2 == 1
+    u < 32 && (s >> u) % 2 == 1
 }
 
 // The set of u alone.
 pub fn single(u: usize) -> u32
     ensures { result ≡ singleOf u }
 {
-    if 32 <= u {
-        return 0;
-    }
-    1 << u
+    if u < 32 { 1 << u } else { 0 }
 }
 
 // The members of s or of t.
@@ -67,21 +64,27 @@ pub fn excluding(s: u32, u: usize) -> u32
 pub fn including_if(s: u32, u: usize, test: bool) -> u32
     ensures { result ≡ including_if s u test }
 {
-    if test {
-        return including(s, u);
+    if test { including(s, u) } else { s }
+}
+
+// The numbers below n that pass the test, as far as a set holds them.
+pub fn collect<F: Fn(usize) -> bool>(n: usize, test: F) -> u32
+    requires { (i : ℕ) → i < n → F.pre test i }
+    ensures { (t : ℕ → Bool) → ((i : ℕ) (b : Bool) → i < n → F.post test i b → b ≡ t i) → result ≡ collectOf n t }
+{
+    let mut set: u32 = 0;
+    for i in 0..n {
+        set = including_if(set, i, test(i));
     }
-    s
+    set
 }
 
 // The numbers below n, as far as a set holds them.
-#[tactic(auto, using(crate::proofs::Laws::below_full))]
+#[tactic(auto, using(crate::proofs::Laws::below_full, crate::proofs::Laws::below_shift))]
 pub fn below(n: usize) -> u32
     ensures { result ≡ belowOf n }
 {
-    if 32 <= n {
-        return 4294967295;
-    }
-    (1 << n) - 1
+    if n < 32 { (1 << n) - 1 } else { 4294967295 }
 }
 
 // How many members s has.
@@ -96,4 +99,34 @@ pub fn lowest(s: u32) -> usize
     ensures { result ≡ lowestOf s }
 {
     u32::trailing_zeros(s) as usize
+}
+
+// The members of a set, the lowest first: what is left of the set.
+#[derive(Drop)]
+pub struct Iter {
+    left: u32,
+}
+
+// The members of s, the lowest first.
+pub fn members(s: u32) -> Iter
+    ensures { result.left ≡ s }
+{
+    Iter { left: s }
+}
+
+impl Iterator for Iter {
+    type Item = usize;
+
+    ghost next_gives = { λ s item t. TakesLowest s.left item t.left };
+
+    ghost remaining = { λ s. at_most (size_of s.left) };
+
+    fn next(&mut self) -> Option<usize> {
+        if self.left == 0 {
+            return None;
+        }
+        let least = lowest(self.left);
+        self.left = excluding(self.left, least);
+        Some(least)
+    }
 }

@@ -1,6 +1,6 @@
 -- Laws of keys and words: a text that starts with a key is the key and what stands behind it. Assumes nothing.
 use mathlib.Core.Path.{◌≡◌, refl, sym, ap, ◌∙◌}
-use mathlib.Core.Bool.{true, false≢true, and-eq-true_iff}
+use mathlib.Core.Bool.{Bool, true, false≢true, and-eq-true_iff}
 use mathlib.Core.List.{List, [], ◌∷◌, ◌++◌, append-nil}
 use Prim.Native.Nat.{ℕ, ◌≤◌}
 use native.Mathlib.Nat.{le_of_eq}
@@ -9,6 +9,10 @@ use lib.ListN.{length, length-append, drop_of_length-le}
 use lib.Seq.{drop-append_seam}
 use lib.Dec.{eqb}
 use borrow.Author.Tests.{eq-eqb, eqb-true}
+use Rattle.std.proofs.Common.{rules}
+use Rattle.std.proofs.lemmas.Slice.Eq.{bytes_eq-Decides}
+use Rattle.std.specs.Bool.{Decides}
+use Rattle.std.specs.Str.{bytes_eq}
 use Rattle.text.specs.Text.{starts_with, after, is_word}
 
 pub starts_append : (k v : List ℕ) → starts_with k (k ++ v) ≡ true
@@ -40,3 +44,10 @@ word-is w t h =
 pub word_same : (w : List ℕ) → is_word w w ≡ true
 unfolding is_word
 word_same w = simp (eq-eqb (length w) (length w) refl) (ap (starts_with w) (sym (append-nil w)) ∙ starts_append w [])
+
+-- as std compares two texts
+pub word_equal : (w t : List ℕ) → bytes_eq t w ≡ is_word w t
+word_equal w t = compared (is_word w t) (word-is w t, λ e. rw e (word_same w))
+  where
+    compared : (r : Bool) → Decides r (t ≡ w) → bytes_eq t w ≡ r
+    compared r h = search (rules, bytes_eq-Decides)

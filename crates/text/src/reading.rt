@@ -1,89 +1,53 @@
 // Reading: a byte's place, keys and words, decimal numbers.
-ghost use Rattle.std.specs.Prelude.{◌≡◌};
-ghost use Rattle.text.specs.Text.{digit as digitOf, number as number_of, starts_with, is_word};
+ghost use Rattle.std.specs.Prelude.{◌≡◌, unwrap_or};
+ghost use Rattle.text.specs.Text.{not_a_number, digit as digitOf, number as number_of, starts_with, is_word};
 ghost use Rattle.text.specs.Writing.{place_of};
 
 // The place of the first such byte; the length where there is none.
 pub fn find(text: &[u8], byte: u8) -> usize
     ensures { result ≡ place_of byte text.now }
 {
-    let mut at = 0;
-    while at < text.len() {
-        if text[at] == byte {
-            return at;
-        }
-        at += 1;
-    }
-    at
+    text.iter().position(|b| *b == byte).unwrap_or(text.len())
 }
 
 // Whether the text begins with a key.
+#[tactic(auto, using(crate::proofs::Places::key_is))]
 pub fn starts_with(text: &[u8], key: &[u8]) -> bool
     ensures { result ≡ starts_with key.now text.now }
 {
-    if text.len() < key.len() {
-        return false;
-    }
-    let mut at = 0;
-    while at < key.len() {
-        if text[at] != key[at] {
-            return false;
-        }
-        at += 1;
-    }
-    true
+    text.starts_with(key)
 }
 
 // Whether the text is that word and no more.
+#[tactic(auto, using(crate::proofs::Keys::word_equal))]
 pub fn is_word(text: &[u8], word: &[u8]) -> bool
     ensures { result ≡ is_word word.now text.now }
 {
-    if text.len() != word.len() {
-        return false;
-    }
-    starts_with(text, word)
+    text == word
 }
 
-// What stands for no number: badly written, or above 4,294,967,295.
-const NO_NUMBER: u64 = 4294967296;
-
-// A byte behind the digits of n; `NO_NUMBER` where that is none.
-fn digit(n: u64, byte: u8) -> u64
-    ensures { result ≡ digitOf n byte }
+// A byte behind the digits of n; none where it is no digit, or where the number is above 4,294,967,295.
+#[tactic(auto, unfolding(crate::specs::Text::digit))]
+fn digit(n: u32, byte: u8) -> Option<u32>
+    ensures { unwrap_or result not_a_number ≡ digitOf n byte }
 {
-    if NO_NUMBER <= n {
-        return NO_NUMBER;
+    if !byte.is_ascii_digit() {
+        return None;
     }
-    if byte < 48 {
-        return NO_NUMBER;
-    }
-    if 57 < byte {
-        return NO_NUMBER;
-    }
-    let next = n * 10 + (byte - 48) as u64;
-    if next < NO_NUMBER {
-        return next;
-    }
-    NO_NUMBER
+    n.checked_mul(10)?.checked_add((byte - b'0') as u32)
 }
 
-// A decimal number; `NO_NUMBER` where the text is none.
-pub fn number(text: &[u8]) -> u64
-    ensures { result ≡ number_of text.now }
+// A decimal number; none where the text is badly written, or the number above 4,294,967,295.
+#[tactic(auto, using(crate::proofs::Places::number_empty, crate::proofs::Places::number_zero))]
+pub fn number(text: &[u8]) -> Option<u32>
+    ensures { unwrap_or result not_a_number ≡ number_of text.now }
 {
-    if text.len() == 0 {
-        return NO_NUMBER;
+    if text.is_empty() || (text[0] == b'0' && 1 < text.len()) {
+        return None;
     }
-    if text[0] == 48 {
-        if 1 < text.len() {
-            return NO_NUMBER;
-        }
+    let mut n = 0;
+    for byte in text {
+        n = digit(n, *byte)?;
     }
-    let mut n: u64 = 0;
-    let mut at = 0;
-    while at < text.len() {
-        n = digit(n, text[at]);
-        at += 1;
-    }
-    n
+    Some(n)
 }

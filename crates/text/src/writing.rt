@@ -1,43 +1,57 @@
-// Writing: bytes put into a lent list from a place on. Each function answers the place after them; at the list's end writing stops.
+// Writing: bytes or other items put into a lent list from a place on, which moves behind them; at the list's end writing stops.
 ghost use Rattle.std.specs.Prelude.{[], ◌∷◌};
 ghost use Rattle.text.specs.Text.{decimal};
-ghost use Rattle.text.specs.Writing.{Written};
+ghost use Rattle.text.specs.Writing.{Written, Writes};
 
-// One byte.
-pub fn put(out: &mut [u8], at: usize, byte: u8) -> usize
-    ensures { Written (byte ∷ []) at out.old result out.new }
-{
-    if at < out.len() {
-        out[at] = byte;
-        return at + 1;
-    }
-    at
+// A lent list, and the place from which on it is written.
+#[derive(Drop)]
+pub struct Output<'a, T> {
+    pub out: &'a mut [T],
+    pub at: usize,
 }
 
-// A text.
-pub fn put_text(out: &mut [u8], at: usize, text: &[u8]) -> usize
-    ensures { Written text.now at out.old result out.new }
-{
-    let mut next = at;
-    let mut i = 0;
-    while i < text.len() {
-        next = put(out, next, text[i]);
-        i += 1;
+impl<'a, T: Copy> Output<'a, T> {
+    // One item.
+    pub fn item(&mut self, item: T)
+        ensures { Writes (item ∷ []) self.old self.new }
+    {
+        if self.at < self.out.len() {
+            self.out[self.at] = item;
+            self.at += 1;
+        }
     }
-    next
+
+    // A list of items; a text is a list of bytes.
+    pub fn items(&mut self, items: &[T])
+        ensures { Writes items.now self.old self.new }
+    {
+        for item in items {
+            self.item(*item);
+        }
+    }
 }
 
-// A number in decimal digits.
-pub fn put_number(out: &mut [u8], at: usize, n: u32) -> usize
-    ensures { Written (decimal n) at out.old result out.new }
+impl<'a> Output<'a, u8> {
+    // A number in decimal digits.
+    pub fn number(&mut self, n: u32)
+        ensures { Writes (decimal n) self.old self.new }
+    {
+        if n < 10 {
+            self.item(b'0' + n as u8);
+        } else if n < 100 {
+            self.items(&[b'0' + (n / 10) as u8, b'0' + (n % 10) as u8]);
+        } else {
+            self.number(n / 10);
+            self.item(b'0' + (n % 10) as u8);
+        }
+    }
+}
+
+// A list of items, into a list from a place on; answers the place after them.
+pub fn put_all<T: Copy>(out: &mut [T], at: usize, items: &[T]) -> usize
+    ensures { Written items.now at out.old result out.new }
 {
-    if n < 10 {
-        return put(out, at, 48 + n as u8);
-    }
-    if n < 100 {
-        let second = put(out, at, 48 + (n / 10) as u8);
-        return put(out, second, 48 + (n % 10) as u8);
-    }
-    let next = put_number(out, at, n / 10);
-    put(out, next, 48 + (n % 10) as u8)
+    let mut output = Output { out, at };
+    output.items(items);
+    output.at
 }

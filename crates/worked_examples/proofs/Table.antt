@@ -37,8 +37,7 @@ use Rattle.output_lines.specs.Output.{refused_key, log_key, hops_key, rest_key, 
 use Rattle.output_lines.specs.Output.{hops_line}
 use Rattle.output_lines.specs.Output.{rest_line}
 use Rattle.runner.specs.Printed.{forest_refusal, forest_parents, plan_of, call_for, result_of_run, on_forest, result_of, result, refused_as}
-use Rattle.runner.specs.Printed.{refused_events, log_lines, run_lines, result_lines, printed, run_answer, RunPromise}
-use Rattle.runner.specs.declared.RunAnswer.{RunAnswer}
+use Rattle.runner.specs.Printed.{refused_events, log_lines, run_lines, result_lines, printed, RunReply, run_answer, RunPromise}
 use Rattle.runner.proofs.Theorems.{run-bytes}
 use Rattle.worked_examples.specs.Table.{Outcome, Refusal, Parents, Prints, Bench, Built, Drawn, bench_refusal, bench_plan}
 use Rattle.worked_examples.specs.Table.{unless_refused, route_outcome, run_outcome, outcome, unit_set, filled, groups}
@@ -104,8 +103,8 @@ P1-planned = planned bench_p1 (unrefused _ _ _ (entry-holds 0))
 
 -- the bytes that `run` leaves for a file, as many as it answers
 abbrev pub RunPrints : (file text : List ℕ) → Type 0
-RunPrints file text = (out : List ℕ) (r : RunAnswer) (left : List ℕ) → RunPromise file out r left
-    → (n : ℕ) → run_answer r.reply ≡ WroteBytes n → take n left ≡ text
+RunPrints file text = (out : List ℕ) (r : RunReply) (left : List ℕ) → RunPromise file out r left
+    → (n : ℕ) → run_answer r ≡ WroteBytes n → take n left ≡ text
 
 run-prints : (file text : List ℕ) → Prints (printed file) ≡ Prints text → RunPrints file text
 run-prints file text e out r left p n q = let same : printed file ≡ text = cc in (run-bytes file out r left p n q).0 ∙ same

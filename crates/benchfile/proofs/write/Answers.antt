@@ -3,30 +3,14 @@ use mathlib.Core.Path.{◌≡◌, sym, ap, ◌∙◌}
 use mathlib.Core.List.{List, ◌++◌}
 use Prim.Native.Nat.{ℕ, ◌≤◌}
 use native.Mathlib.Omega.{arith}
-use borrow.Author.Tests.{lt-ltb, le-ltb}
+use borrow.Author.Tests.{le-ltb}
 use lib.ListN.{length, drop}
-use lib.Seq.{length-take-le}
 use Rattle.benchfile.specs.Calls.{WroteBytes, write_answer, written, write_short, write_says, write_leaves}
-use Rattle.benchfile.proofs.WrittenLines.{written-part}
+use Rattle.benchfile.proofs.WrittenLines.{written-part, write_refused}
 use Rattle.benchfile.proofs.write.Goals as goal
 
 pub returns-then-list-lt9000 : goal.returns-then-list-lt9000
-unfolding write_answer write_says write_short write_leaves
-returns-then-list-lt9000 c = let short = lt-ltb _ _ c.if-list-lt9000.true in record { answers = simp short; leaves = simp short }
-
-pub returns-then-out-lt32768 : goal.returns-then-out-lt32768
-unfolding write_answer write_says write_short write_leaves
-returns-then-out-lt32768 c =
-    let long = le-ltb _ _ c.if-list-lt9000.false in
-    let short = lt-ltb _ _ c.if-out-lt32768.true in record { answers = simp (long, short); leaves = simp (long, short) }
-
-pub slice_bounds-put_file-end : goal.slice_bounds-put_file-end
-slice_bounds-put_file-end c =
-    sym (length-take-le 9000 c.args.list.now c.if-list-lt9000.false)
-
-pub slice_bounds-put_file-end-3 : goal.slice_bounds-put_file-end-3
-slice_bounds-put_file-end-3 c =
-    sym (length-take-le 32768 c.args.out.now (omega arith))
+returns-then-list-lt9000 c = write_refused _ _ _ c.then-list-lt9000.either
 
 -- where both lists are long enough
 wrote : (events out text : List ℕ) → 9000 ≤ length events → 32768 ≤ length out

@@ -1,4 +1,5 @@
 -- The store changes the entry of u alone; where u is no unit no entry changes.
+use borrow.Author.Rules.{rules}
 use mathlib.Core.Path.{◌≡◌, refl, sym, ap, ◌∙◌}
 use mathlib.Core.Logic.{by_cases}
 use native.Mathlib.Decide.{ℕ_discrete}
@@ -29,7 +30,7 @@ returns-then-u-lt-UNITS c =
     let start = c in
     let a = start.args in
     ap (set a.table.now a.u) c.including.ensures
-    ∙ stored a.table.now a.u a.c start.requires c.if-u-lt-UNITS.true
+    ∙ stored a.table.now a.u a.c (search rules) c.if-u-lt-UNITS.true
 
 pub returns-else-u-lt-UNITS : goal.returns-else-u-lt-UNITS
-returns-else-u-lt-UNITS c = kept c.args.table.now c.args.u c.args.c c.requires c.if-u-lt-UNITS.false
+returns-else-u-lt-UNITS c = kept c.args.table.now c.args.u c.args.c (search rules) c.if-u-lt-UNITS.false

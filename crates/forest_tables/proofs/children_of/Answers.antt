@@ -2,10 +2,8 @@ use borrow.Author.Rules.{rules}
 use mathlib.Core.Path.{refl, ap, ◌∙◌}
 use Prim.Native.Nat.{ℕ}
 use native.Mathlib.Omega.{arith}
-use lib.ListN.{length}
 use Rattle.sets.specs.Sets.{collect}
 use Rattle.layout.specs.Tables.{tabulate}
-use Rattle.layout.proofs.Tables.{length-tabulate}
 use Rattle.layout.proofs.Loops.{get_d_any, reached-turn, reached-all, collected_more}
 use Rattle.forest.specs.Forest.{parent}
 use Rattle.forest_tables.specs.Computed.{is_child, children_of, with_child}
@@ -14,9 +12,6 @@ use Rattle.forest_tables.proofs.children_of.Goals as goal
 pub loop-c-init : goal.loop-c-init
 unfolding collect tabulate
 loop-c-init c = record { within = omega arith; right = refl }
-
-pub add_child-requires : goal.add_child-requires
-add_child-requires c = ap length c.loop-c.invariant.right ∙ length-tabulate 32 _
 
 pub loop-c-preserved : goal.loop-c-preserved
 unfolding with_child is_child parent

@@ -1,5 +1,4 @@
 -- The loop collects the children of every unit at once, one child after the other.
-use Prim.Native.Nat.{◌-◌}
 use Rattle.sets.specs.Sets.{collect}
 use Rattle.layout.specs.Tables.{tabulate}
 use Rattle.layout.proofs.Loops.{Reached}
@@ -8,6 +7,3 @@ use Rattle.forest_tables.proofs.children_of.Given as goal
 
 abbrev pub invariant-loop-c : goal.invariant-loop-c
 invariant-loop-c l = Reached 32 (λ k. tabulate 32 (λ u. collect k (is_child l.parents u))) l.table l.c
-
-abbrev pub decreases-loop-c : goal.decreases-loop-c
-decreases-loop-c l = 32 - l.c

@@ -1,6 +1,6 @@
 -- The loop fills the list number by number.
 use mathlib.Core.List.{List}
-use Prim.Native.Nat.{ℕ, ◌+◌, ◌-◌, ◌%◌}
+use Prim.Native.Nat.{ℕ, ◌+◌, ◌%◌}
 use lib.ListN.{get_or}
 use Rattle.layout.proofs.Loops.{Filled}
 use Rattle.forest_tables.specs.Computed.{entry_of}
@@ -15,6 +15,3 @@ entry_at n c gs ps children routes primaries i =
 abbrev pub invariant-loop-i : goal.invariant-loop-i
 invariant-loop-i l =
     Filled 140 (entry_at l.units l.count l.counted l.parents l.children l.routes l.primaries) l.table l.i
-
-abbrev pub decreases-loop-i : goal.decreases-loop-i
-decreases-loop-i l = 140 - l.i

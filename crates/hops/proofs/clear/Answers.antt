@@ -1,15 +1,8 @@
-use mathlib.Core.Path.{refl}
-use native.Mathlib.Numerals.{add-one}
-use native.Mathlib.Omega.{arith}
-use Rattle.bench_store.specs.Values.{filled}
+-- The part that is filled is the first `count` places, as far as the list has them.
+use Rattle.bench_store.proofs.Parts.{filled_part}
+use Rattle.model.specs.Network.{no_hop}
 use Rattle.hops.proofs.clear.Goals as goal
 
-pub loop-at-init : goal.loop-at-init
-unfolding filled
-loop-at-init c = (omega arith, refl)
-
-pub loop-at-preserved : goal.loop-at-preserved
-unfolding filled
-loop-at-preserved c =
-    let at = c.loop-at.at in
-    (omega arith, rw (add-one at, ← c.loop-at.invariant.1, ← c.no_hop-zeros.ensures) c.append.ensures)
+pub returns : goal.returns
+unfolding no_hop
+returns c = filled_part no_hop c.args.count c.min-end.result c.args.hops.now _ c.min-end.ensures (c.fill.ensures.after (λ y e. e))

@@ -1,13 +1,11 @@
-use mathlib.Core.Path.{refl, ap, ◌∙◌}
+use mathlib.Core.Path.{refl}
 use native.Mathlib.Omega.{arith}
-use lib.ListN.{length}
-use Rattle.layout.proofs.Tables.{length-tabulate}
 use Rattle.layout.proofs.Laying.{turn_layable, turn-size, turn-less, turn-again, layable_some, lay_below}
 use Rattle.layout.proofs.Laying.{lay_smaller, lay_starts, lay_parts, lay_ends}
 use Rattle.layout.proofs.+lay.Goals as goal
 
 pub root-r-requires : goal.root-r-requires
-root-r-requires t c = (ap length c.requires.counts ∙ length-tabulate 32 _, layable_some c.requires)
+root-r-requires t c = layable_some c.requires
 
 -- the root is a unit
 pub bounds-parents-r : goal.bounds-parents-r
@@ -19,14 +17,8 @@ returns-then-rest-eq0 t c =
     lay_ends h c.root-r.ensures c.excluding-rest.ensures
     (lay_starts h c.root-r.ensures c.excluding-rest.ensures refl) c.if-rest-eq0.true
 
-pub inside-joining-requires : goal.inside-joining-requires
-inside-joining-requires t c = c.requires.groups.long
-
 pub loop-rest-init : goal.loop-rest-init
 loop-rest-init t c = lay_starts c.requires c.root-r.ensures c.excluding-rest.ensures c.inside-joining.ensures
-
-pub component-smaller-requires : goal.component-smaller-requires
-component-smaller-requires t c = c.requires.groups.long
 
 pub overflow_cast-r : goal.overflow_cast-r
 overflow_cast-r t c = omega (arith, lay_below c.requires c.root-r.ensures refl)

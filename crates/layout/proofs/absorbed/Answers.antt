@@ -10,6 +10,6 @@ returns-then-intersection-ne0 c =
     let i = c.intersection.ensures in
     rw (ne_eqb _ 0 (λ e. n (i ∙ e))) c.union.ensures
 
-pub returns : goal.returns
+pub returns-else-intersection-ne0 : goal.returns-else-intersection-ne0
 unfolding absorbed
-returns c = rw (eq-eqb _ 0 (sym c.intersection.ensures ∙ c.if-intersection-ne0.false))
+returns-else-intersection-ne0 c = simp (eq-eqb _ 0 (sym c.intersection.ensures ∙ c.if-intersection-ne0.false))

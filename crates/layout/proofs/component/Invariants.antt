@@ -1,10 +1,8 @@
 use mathlib.Core.Path.{◌≡◌}
+use Prim.Native.Nat.{◌-◌}
 use Rattle.layout.specs.Build.{rounds, component}
 use Rattle.layout.proofs.component.Given as goal
 
--- what is left to spread leads to the component
-abbrev pub invariant-loop-left : goal.invariant-loop-left
-invariant-loop-left l = rounds l.left l.groups l.live l.set ≡ component l.groups l.live l.u
-
-abbrev pub decreases-loop-left : goal.decreases-loop-left
-decreases-loop-left l = l.left
+-- the rounds that are left lead to the component
+abbrev pub invariant-loop : goal.invariant-loop
+invariant-loop l = rounds (32 - l.counter) l.groups l.live l.set ≡ component l.groups l.live l.u

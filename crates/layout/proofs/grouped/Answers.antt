@@ -1,23 +1,19 @@
-use mathlib.Core.Path.{refl, ap, ◌∙◌}
+use mathlib.Core.Path.{refl, ap, sym, ◌∙◌}
 use Prim.Native.Nat.{ℕ}
-use native.Mathlib.Omega.{arith}
+use native.Mathlib.Numerals.{add-one}
 use lib.ListN.{get_or}
 use Rattle.sets.specs.Sets.{union}
 use Rattle.layout.specs.Layout.{grouped_within}
-use Rattle.layout.proofs.Loops.{reached-turn, reached-all}
 use Rattle.layout.proofs.grouped.Goals as goal
 
-pub loop-i-init : goal.loop-i-init
+pub loop-group-init : goal.loop-group-init
 unfolding grouped_within
-loop-i-init c = record { within = omega arith; right = refl }
+loop-group-init c = refl
 
-pub loop-i-preserved : goal.loop-i-preserved
+pub loop-group-preserved : goal.loop-group-preserved
 unfolding grouped_within
-loop-i-preserved c =
-    let inv = c.loop-i.invariant in
+loop-group-preserved c =
     let gs = c.args.groups.now in
-    reached-turn inv c.loop-i-test.true
-    (c.union-set.ensures ∙ ap (λ (x : ℕ). union x (get_or gs c.loop-i.i 0)) inv.right)
-
-pub returns : goal.returns
-returns c = reached-all c.loop-i.invariant c.loop-i-test.false
+    let i = c.loop-group.group-index in
+    c.union-set.ensures ∙ ap (λ (x : ℕ). union x (get_or gs i 0)) c.loop-group.invariant
+    ∙ ap (λ (k : ℕ). grouped_within k gs) (sym (add-one i))

@@ -1,35 +1,22 @@
-use Rattle.sets.proofs.Members.{next-member, left_less}
 use Rattle.layout.specs.Layout.{degree_in}
 use Rattle.layout.proofs.Roots.{best-first, best-next, best-still, best-end}
 use Rattle.layout.proofs.root.Goals as goal
-use Rattle.layout.proofs.root.Goals.{then-degrees-r, else-degrees-r}
 
-pub loop-left-init : goal.loop-left-init
-loop-left-init c =
-    best-first _ c.ranges.part.fits c.requires.1 c.lowest-r.ensures c.excluding-left.ensures
+pub loop-k-init : goal.loop-k-init
+loop-k-init c = best-first _ c.ranges.part.fits c.requires c.lowest-r.ensures (cc)
 
 pub bounds-degrees-r : goal.bounds-degrees-r
-bounds-degrees-r c = c.loop-left.invariant.small
+bounds-degrees-r c = c.loop-k.invariant.small
 
-pub bounds-degrees-k : goal.bounds-degrees-k
-bounds-degrees-k c =
-    (next-member c.loop-left.invariant.others c.loop-left-test.true c.lowest-k.ensures).0
-
-pub loop-left-smaller : goal.loop-left-smaller
-loop-left-smaller c =
-    left_less c.loop-left.invariant.others c.loop-left-test.true c.lowest-k.ensures c.excluding-left-in-loop-left.ensures
-
-pub loop-left-preserved : goal.loop-left-preserved
+pub loop-k-preserved-then-degrees-r : goal.loop-k-preserved-then-degrees-r
 unfolding degree_in
-loop-left-preserved c =
-    let inv = c.loop-left.invariant in
-    let small = c.ranges.part.fits in
-    let low = c.lowest-k.ensures in
-    let out = c.excluding-left-in-loop-left.ensures in
-    elim c.if-degrees-r.branch [
-      | then-degrees-r w ↦ rw w.r-is (best-next _ small inv c.loop-left-test.true low out w.if-degrees-r.true)
-      | else-degrees-r w ↦ rw w.r-is (best-still _ small inv c.loop-left-test.true low out w.if-degrees-r.false)
-    ]
+loop-k-preserved-then-degrees-r c =
+    best-next _ c.ranges.part.fits c.loop-k.invariant c.in-Some.ensures.steps c.if-degrees-r.true
+
+pub loop-k-preserved : goal.loop-k-preserved
+unfolding degree_in
+loop-k-preserved c =
+    best-still _ c.ranges.part.fits c.loop-k.invariant c.in-Some.ensures.steps c.if-degrees-r.false
 
 pub returns : goal.returns
-returns c = best-end _ c.ranges.part.fits c.loop-left.invariant c.loop-left-test.false
+returns c = best-end _ c.ranges.part.fits c.loop-k.invariant c.in-None.ensures.steps

@@ -1,12 +1,12 @@
-use borrow.Author.Rules.{rules}
-use Rattle.text.proofs.Written.{written_none, written-more, written_all}
+use Rattle.text.proofs.Written.{writes_none, writes-more, writes_all}
 use Rattle.number_writer.proofs.put_widened.Goals as goal
 
-pub loop-i-init : goal.loop-i-init
-loop-i-init c = (search rules, written_none _ _)
+pub loop-number-init : goal.loop-number-init
+loop-number-init c = writes_none _
 
-pub loop-i-preserved : goal.loop-i-preserved
-loop-i-preserved c = (search rules, written-more _ c.loop-i.i c.loop-i-test.true c.loop-i.invariant.1 c.put_wide-next.ensures)
+pub loop-number-preserved : goal.loop-number-preserved
+loop-number-preserved c =
+    writes-more 0 _ c.loop-number.number-index c.loop-number-test.true c.loop-number.invariant c.item.ensures
 
 pub returns : goal.returns
-returns c = written_all _ c.loop-i.i c.loop-i-test.false c.loop-i.invariant.1
+returns c = writes_all _ c.loop-number.number-index c.loop-number-test.false c.loop-number.invariant

@@ -1,11 +1,7 @@
--- The loop's invariant: the first `i` are written.
-use Prim.Native.Nat.{◌-◌, ◌≤◌}
-use lib.ListN.{length, take}
-use Rattle.text.specs.Writing.{Written}
+-- The loop's invariant: the numbers so far are written.
+use lib.ListN.{take}
+use Rattle.text.specs.Writing.{Writes}
 use Rattle.number_writer.proofs.put_widened.Given as goal
 
-abbrev pub invariant-loop-i : goal.invariant-loop-i
-invariant-loop-i l = (l.i ≤ length l.numbers) × Written (take l.i l.numbers) l.at l.initial.out l.next l.out
-
-abbrev pub decreases-loop-i : goal.decreases-loop-i
-decreases-loop-i l = length l.numbers - l.i
+abbrev pub invariant-loop-number : goal.invariant-loop-number
+invariant-loop-number l = Writes (take l.number-index l.numbers) l.initial.output l.output

@@ -4,8 +4,8 @@ use Rattle.output_lines.proofs.put_rest.Goals as goal
 
 pub returns-then-rest : goal.returns-then-rest
 unfolding rest_line rest_key answer_word
-returns-then-rest c = rw c.if-rest.true c.put_text.ensures
+returns-then-rest c = rw c.if-rest.true c.items.ensures
 
-pub returns : goal.returns
+pub returns-else-rest : goal.returns-else-rest
 unfolding rest_line rest_key answer_word
-returns c = rw c.if-rest.false c.put_text-2.ensures
+returns-else-rest c = rw c.if-rest.false c.items-else-rest.ensures

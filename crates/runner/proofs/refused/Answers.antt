@@ -1,11 +1,7 @@
 -- The line is printed from the start of the list.
+use mathlib.Core.Path.{refl}
+use borrow.Author.Rules.{rules}
 use Rattle.runner.proofs.refused.Goals as goal
 
 pub returns : goal.returns
-returns c =
-    record {
-      place = c.put_refusal-bytes.result;
-      says = c.printed.ensures.0;
-      prints = c.put_refusal-bytes.ensures;
-      sum = c.printed.ensures.1;
-    }
+returns c = let w = c.put_refusal.ensures in record { prints = search rules; sum = refl }

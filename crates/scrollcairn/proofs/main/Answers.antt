@@ -6,10 +6,8 @@ use Rattle.scrollcairn.proofs.main.Goals as goal
 
 pub slice_bounds-out-end : goal.slice_bounds-out-end
 unfolding run_answer
-slice_bounds-out-end c =
-    (run-bytes _ _ c.run-answer.result _ c.run-answer.ensures c.in-Printed.bytes (ap run_answer c.in-Printed.is)).2
+slice_bounds-out-end c = (run-bytes _ _ c.run.result _ c.run.ensures c.in-Ok.printed.bytes (ap run_answer c.in-Ok.is)).2
 
 pub slice_bounds-write_all-end : goal.slice_bounds-write_all-end
 unfolding run_answer
-slice_bounds-write_all-end c =
-    (run-bytes _ _ c.run-answer.result _ c.run-answer.ensures c.in-Printed.bytes (ap run_answer c.in-Printed.is)).1
+slice_bounds-write_all-end c = (run-bytes _ _ c.run.result _ c.run.ensures c.in-Ok.printed.bytes (ap run_answer c.in-Ok.is)).1

@@ -16,7 +16,7 @@ third false text n = refl
 
 pub returns : goal.returns
 returns c =
-    let said = c.run-ran.ensures in
+    let said = c.run.ensures in
     record {
       answers = c.put.ensures ∙ c.of_run.ensures ∙ (λ i. told_by (said.answers i) (said.taken i)) ∙ third _ _ _;
       leaves = said.leaves;

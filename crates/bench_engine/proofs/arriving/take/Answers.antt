@@ -1,8 +1,7 @@
 -- Each step computes its part of the rule's.
-use mathlib.Core.Path.{refl}
 use Rattle.bench_promises.specs.Machine.{delivery_at, forwarding, take_arrival, take_pairs, take_hops, take_book}
 use Rattle.bench_engine.proofs.arriving.take.Goals as goal
 
 pub returns : goal.returns
 unfolding take_arrival take_pairs take_hops take_book delivery_at forwarding
-returns c = (cc, refl, (cc), (cc), (cc))
+returns c = (cc, cc, cc, cc)

@@ -3,7 +3,8 @@ use mathlib.Core.Path.{◌≡◌, subst}
 use borrow.Author.Tests.{lt-ltb, le-ltb, lt-leb, le-leb}
 use lib.ListN.{length}
 use Rattle.model.specs.Rules.{refuse}
-use Rattle.bench_promises.specs.declared.replies.LogReply.TheVariants.{Length, ListTooShort, NoSuchUnit}
+use Rattle.std.specs.Prelude.{Ok, Err}
+use Rattle.bench_promises.specs.declared.replies.LogRefusal.TheVariants.{ListTooShort, NoSuchUnit}
 use Rattle.bench_promises.specs.Machine.{log_reply}
 use Rattle.bench_promises.specs.State.{bench}
 use Rattle.bench_promises.specs.Promises.{LengthPromise}
@@ -14,7 +15,7 @@ pub returns-then-book-lt-BOOK : goal.returns-then-book-lt-BOOK
 unfolding log_reply refuse
 returns-then-book-lt-BOOK c =
     let args = c.args in
-    let said : log_reply args.tables.now args.gauges.now args.unit (length args.book.now) ≡ ListTooShort = rw
+    let said : log_reply args.tables.now args.gauges.now args.unit (length args.book.now) ≡ Err ListTooShort = rw
     (lt-ltb _ _ c.if-book-lt-BOOK.true) in
     λ t ms ps. subst (LengthPromise (bench t args.tables.now ms ps args.gauges.now) args.unit args.book.now) said
     (length-promise (bench t args.tables.now ms ps args.gauges.now) args.unit args.book.now)
@@ -23,7 +24,7 @@ pub returns-then-unit_count-unit : goal.returns-then-unit_count-unit
 unfolding log_reply refuse
 returns-then-unit_count-unit c =
     let args = c.args in
-    let said : log_reply args.tables.now args.gauges.now args.unit (length args.book.now) ≡ NoSuchUnit = rw
+    let said : log_reply args.tables.now args.gauges.now args.unit (length args.book.now) ≡ Err NoSuchUnit = rw
     (le-ltb _ _ c.if-book-lt-BOOK.false, ← c.unit_count.ensures, le-leb _ _ c.if-unit_count-unit.true) in
     λ t ms ps. subst (LengthPromise (bench t args.tables.now ms ps args.gauges.now) args.unit args.book.now) said
     (length-promise (bench t args.tables.now ms ps args.gauges.now) args.unit args.book.now)
@@ -32,7 +33,7 @@ pub returns : goal.returns
 unfolding log_reply refuse
 returns c =
     let args = c.args in
-    let said : log_reply args.tables.now args.gauges.now args.unit (length args.book.now) ≡ Length c.length_of.result =
+    let said : log_reply args.tables.now args.gauges.now args.unit (length args.book.now) ≡ Ok c.length_of.result =
     rw (
       le-ltb _ _ c.if-book-lt-BOOK.false,
       ← c.unit_count.ensures,

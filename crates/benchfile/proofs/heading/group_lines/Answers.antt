@@ -1,28 +1,33 @@
 use native.Mathlib.Omega.{arith}
-use Rattle.benchfile.proofs.HeadingLines.{groups_none, groups-refused, group-inside, groups-turn, groups-read}
+use Rattle.std.proofs.lemmas.Result.{err_from_is_err_and}
+use Rattle.lines.specs.Lines.{group_fault, group_in}
+use Rattle.benchfile.specs.Steps.{BadLine}
+use Rattle.benchfile.proofs.Lines.{line_ok, line_bad, read-inside}
+use Rattle.benchfile.proofs.HeadingLines.{groups_none, groups-bad, groups-turn, groups-read}
 use Rattle.benchfile.proofs.heading.group_lines.Goals as goal
 
 pub loop-i-init : goal.loop-i-init
 loop-i-init c = groups_none _ _ _
 
-pub returns-then-line-ne0 : goal.returns-then-line-ne0
-returns-then-line-ne0 c =
-    groups-refused c.loop-i.invariant c.loop-i-test.true _ c.group-line.ensures c.if-line-ne0.true
+pub returns-in_err-line : goal.returns-in_err-line
+returns-in_err-line c =
+    let p = err_from_is_err_and c.from_residual.result c.from_residual.ensures.1 in
+    rw (p.1, p.2)
+    (line_bad (group_fault _) group_in _ _ c.group.result c.group.ensures c.at_line.ensures _ c.in_err-line.was (BadLine _)
+    (groups-bad c.loop-i.invariant c.loop-i-test.true))
 
-pub overflow_add-at : goal.overflow_add-at
-overflow_add-at c =
-    omega (arith, group-inside c.loop-i.invariant c.loop-i-test.true _ c.group-line.ensures c.if-line-ne0.false)
+pub slice_bounds-rest-count : goal.slice_bounds-rest-count
+slice_bounds-rest-count c =
+    (read-inside (line_ok (group_fault _) group_in _ _ c.group.result c.group.ensures c.at_line.ensures _ c.in_ok-line.was)).1
 
-pub overflow_add-i : goal.overflow_add-i
-overflow_add-i c = omega arith
-
-pub loop-i-smaller : goal.loop-i-smaller
-loop-i-smaller c = omega arith
+pub slice_bounds-rest-start : goal.slice_bounds-rest-start
+slice_bounds-rest-start c =
+    (read-inside (line_ok (group_fault _) group_in _ _ c.group.result c.group.ensures c.at_line.ensures _ c.in_ok-line.was)).1
 
 pub loop-i-preserved : goal.loop-i-preserved
 loop-i-preserved c =
-    groups-turn c.loop-i.invariant c.loop-i-test.true _ c.group-line.ensures c.if-line-ne0.false
-    c.with_group-next.ensures
+    groups-turn c.loop-i.invariant c.loop-i-test.true
+    (line_ok (group_fault _) group_in _ _ c.group.result c.group.ensures c.at_line.ensures _ c.in_ok-line.was) c.put_all.ensures
 
 pub returns : goal.returns
-returns c = groups-read c.loop-i.invariant c.loop-i-test.false
+returns c = groups-read c.loop-i.invariant (omega arith)

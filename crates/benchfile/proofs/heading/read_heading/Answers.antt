@@ -1,35 +1,31 @@
 -- The lines before the events are read one after the other.
-use native.Mathlib.Omega.{arith}
-use Rattle.benchfile.proofs.HeadingLines.{heading_refused, groups-bad, drawing-bad, drawing-inside, heading_read}
+use Rattle.std.proofs.lemmas.Result.{err_from_is_err_and}
+use Rattle.lines.specs.Lines.{parents_fault}
+use Rattle.lines.specs.Fields.{drawn_in}
+use Rattle.benchfile.specs.Steps.{BadLine}
+use Rattle.benchfile.proofs.Lines.{line_ok, line_bad}
+use Rattle.benchfile.proofs.HeadingLines.{drawing-bad, drawing-inside, none_said, heading_read}
 use Rattle.benchfile.proofs.heading.read_heading.Goals as goal
 
-pub returns-then-first-ne0 : goal.returns-then-first-ne0
-returns-then-first-ne0 c = heading_refused (c.read_counts-first.ensures.refused c.if-first-ne0.true) c.no_heading.ensures
+pub returns-in_err-drawing : goal.returns-in_err-drawing
+returns-in_err-drawing c =
+    let p = err_from_is_err_and c.from_residual-in_err-drawing.result c.from_residual-in_err-drawing.ensures.1 in
+    rw (p.1, p.2)
+    (line_bad (parents_fault _) drawn_in _ _ c.parents.result c.parents.ensures c.at_line.ensures _ c.in_err-drawing.was (BadLine _)
+    (drawing-bad c.in_ok-first.ensures c.in_ok-found.ensures))
 
-pub returns-then-found-ne0 : goal.returns-then-found-ne0
-returns-then-found-ne0 c =
-    heading_refused
-    (groups-bad c.read_counts-first.ensures c.if-first-ne0.false c.group_lines-found.ensures
-    c.if-found-ne0.true)
-    c.no_heading-then-found-ne0.ensures
+pub slice_bounds-result-count : goal.slice_bounds-result-count
+slice_bounds-result-count c =
+    drawing-inside c.in_ok-first.ensures c.in_ok-found.ensures
+    (line_ok (parents_fault _) drawn_in _ _ c.parents.result c.parents.ensures c.at_line.ensures _ c.in_ok-drawing.was)
 
-pub returns-then-drawing-ne0 : goal.returns-then-drawing-ne0
-returns-then-drawing-ne0 c =
-    heading_refused
-    (drawing-bad c.read_counts-first.ensures c.if-first-ne0.false c.group_lines-found.ensures
-    c.if-found-ne0.false
-    c.parents-drawing.ensures c.if-drawing-ne0.true) c.no_heading-then-drawing-ne0.ensures
-
-pub overflow_add-result-2 : goal.overflow_add-result-2
-overflow_add-result-2 c =
-    omega (
-      arith,
-      drawing-inside c.read_counts-first.ensures c.if-first-ne0.false c.group_lines-found.ensures
-          c.if-found-ne0.false c.parents-drawing.ensures c.if-drawing-ne0.false,
-    )
+pub slice_bounds-result-start : goal.slice_bounds-result-start
+slice_bounds-result-start c =
+    drawing-inside c.in_ok-first.ensures c.in_ok-found.ensures
+    (line_ok (parents_fault _) drawn_in _ _ c.parents.result c.parents.ensures c.at_line.ensures _ c.in_ok-drawing.was)
 
 pub returns : goal.returns
 returns c =
-    heading_read c.read_counts-first.ensures c.if-first-ne0.false c.group_lines-found.ensures
-    c.if-found-ne0.false
-    c.parents-drawing.ensures c.if-drawing-ne0.false
+    heading_read c.in_ok-first.ensures c.in_ok-found.ensures
+    (line_ok (parents_fault _) drawn_in _ _ c.parents.result c.parents.ensures c.at_line.ensures _ c.in_ok-drawing.was)
+    (none_said _ _ c.is_none.ensures) c.unwrap_or.ensures

@@ -1,36 +1,18 @@
-use mathlib.Core.Path.{◌≡◌}
-use Prim.Native.Nat.{◌≤◌}
 use native.Mathlib.Omega.{arith}
-use borrow.Author.Rules.{rules}
-use lib.ListN.{length}
 use lib.Seq.{take_all}
-use Rattle.text.proofs.Written.{written_none}
+use Rattle.text.proofs.Written.{writes_none}
 use Rattle.lines.specs.Lines.{group_line}
 use Rattle.benchfile.specs.File.{ended}
-use Rattle.benchfile.proofs.WrittenLines.{written-turn}
+use Rattle.benchfile.proofs.WrittenLines.{writes-turn}
 use Rattle.benchfile.proofs.writing.put_groups.Goals as goal
 
-pub loop-i-init : goal.loop-i-init
+pub loop-group-init : goal.loop-group-init
 unfolding ended
-loop-i-init c = (search rules, search rules, written_none _ _)
+loop-group-init c = writes_none _
 
-pub returns-then-i-ge24 : goal.returns-then-i-ge24
-returns-then-i-ge24 c =
-    let loop = c.loop-i in
-    let a = c.args in
-    let all : length a.groups ≡ 24 = search rules in
-    let past : length a.groups ≤ loop.i = omega arith in
-    rw (take_all a.count a.groups (omega arith)) (rw (take_all loop.i a.groups past) at loop.invariant.2)
-
-pub loop-i-preserved : goal.loop-i-preserved
-loop-i-preserved c =
-    let loop = c.loop-i in
-    let gs = c.args.groups in
-    let all : length gs ≡ 24 = search rules in
-    (search rules, search rules, written-turn group_line gs loop.i (omega arith) loop.invariant.2 c.put_group-next.ensures)
+pub loop-group-preserved : goal.loop-group-preserved
+loop-group-preserved c =
+    writes-turn group_line c.args.groups.now c.loop-group.group-index (omega arith) c.loop-group.invariant c.put_group.ensures
 
 pub returns : goal.returns
-returns c =
-    let loop = c.loop-i in
-    let all : c.args.count ≡ loop.i = omega arith in
-    rw all loop.invariant.2
+returns c = rw (take_all c.loop-group.group-index c.args.groups.now c.loop-group-test.false) at c.loop-group.invariant

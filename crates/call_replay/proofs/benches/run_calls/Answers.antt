@@ -1,36 +1,41 @@
--- A turn runs the next call and puts its reply; where no call is left, all were run.
-use mathlib.Core.Path.{◌≡◌, refl, sym, ap, ◌∙◌}
-use mathlib.Core.Bool.{true, not}
-use Prim.Native.Nat.{◌-◌, ◌<◌}
-use native.Mathlib.Omega.{arith}
-use borrow.Author.Tests.{eq-eqb}
-use Rattle.sets.proofs.Bools.{clash}
-use Rattle.call_replay.specs.declared.requests.Progress.{Progress}
-use Rattle.call_replay.specs.Steps.{is_going, over, next, ended_with}
+-- A turn runs the next call and puts its reply; at the end, all were run.
+use mathlib.Core.Path.{◌≡◌, refl, ◌∙◌}
+use mathlib.Core.List.{List}
+use Prim.Native.Nat.{ℕ}
+use Rattle.model.specs.declared.Hop.{Hop}
+use Rattle.text.specs.declared.writing.Output.{Output}
+use Rattle.bench.specs.declared.Bench.{Bench}
+use Rattle.call_replay.specs.declared.requests.Request.{Request}
+use Rattle.call_replay.specs.Steps.{CallRun, sent, arrived, log_read, length_read, looked, over, next}
 use Rattle.call_replay.proofs.benches.run_calls.Goals as goal
 
--- a turn leaves one call less
-some-left : (p : Progress) → is_going p ≡ true → p.left ≡ 0 → ⊥
-unfolding is_going
-some-left p goes none = clash goes (ap not (eq-eqb p.left 0 none))
+same_list : {b b₁ : Bench} {hops hops₁ : List Hop} {book book₁ : List ℕ} {o o₁ : Output ℕ} {q : Request}
+    → CallRun b hops book o q b₁ hops₁ book₁ o₁ → o₁.out.ghost_name ≡ o.out.ghost_name
+same_list (sent s g w n r promise puts) = puts.same_list
+same_list (arrived j n m r promise puts) = puts.same_list
+same_list (log_read u m x) = x.puts.same_list
+same_list (length_read u m x) = x.puts.same_list
+same_list (looked n promise puts) = puts.same_list
 
-nearer : (p r : Progress) → is_going p ≡ true → r.left ≡ p.left - 1 → r.left < p.left
-nearer p r goes e = omega (arith, some-left p goes)
+pub loop-call-init : goal.loop-call-init
+loop-call-init c =
+    let calls = c.chunks_exact-call-items.ensures in
+    rw (c.into_iter-call-iterator.ensures.into_iter_gives, calls.size, calls.rest) (refl, refl, λ b hops book o runs. runs)
 
-pub loop-q-smaller : goal.loop-q-smaller
-loop-q-smaller c = nearer c.loop-q.p c.put_reply-p.result (sym c.is_going.ensures ∙ c.loop-q-test.true) c.put_reply-p.ensures.goes_on
+pub loop-call-preserved : goal.loop-call-preserved
+loop-call-preserved c =
+    let kept = c.loop-call.invariant in
+    let taken = c.in-Some.ensures.steps in
+    let ran = rw c.request_in-request.ensures at c.run_call-bench.ensures in (
+      taken.0 ∙ kept.0,
+      same_list ran ∙ kept.1,
+      λ b hops book o later. kept.2 b hops book o (rw taken.1.0 (next c.in-Some.call.now (taken.1.1 ∙ kept.0) ran later)),
+    )
 
-pub loop-q-preserved : goal.loop-q-preserved
-loop-q-preserved c = λ b p hops book out later. c.loop-q.invariant b p hops book out
-    (next (sym c.is_going.ensures ∙ c.loop-q-test.true) (rw c.request_at-q.ensures at c.run_call-done.ensures)
-    (rw c.request_at-q.ensures at c.put_reply-p.ensures) (rw c.bench_of-bench.ensures at later))
+pub returns-clause-same_list : goal.returns-clause-same_list
+returns-clause-same_list c = c.loop-call.invariant.1
 
-pub returns : goal.returns
-unfolding ended_with
-returns c =
-    let l = c.loop-q in
-    rw c.end_of.ensures (record {
-      progress = l.p;
-      runs = l.invariant l.bench l.p l.hops l.book l.out (over (sym c.is_going.ensures ∙ c.loop-q-test.false));
-      ends = refl;
-    })
+pub returns-clause-run : goal.returns-clause-run
+returns-clause-run c =
+    let l = c.loop-call in
+    l.invariant.2 l.bench l.hops l.book l.output (over (rw l.invariant.0 at c.in-None.ensures.steps.1.0))

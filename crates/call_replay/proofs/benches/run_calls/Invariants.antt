@@ -1,16 +1,17 @@
--- The loop keeps that what runs from the state it has reached runs from the start. One call less is left after each turn.
+-- The loop keeps the list that is written to, and that what runs from the state it has reached, over the numbers that are left, runs
+-- from the start.
+use mathlib.Core.Path.{◌≡◌}
 use mathlib.Core.List.{List}
 use Prim.Native.Nat.{ℕ}
 use Rattle.model.specs.declared.Hop.{Hop}
 use Rattle.bench.specs.declared.Bench.{Bench}
-use Rattle.call_replay.specs.declared.requests.Progress.{Progress}
-use Rattle.call_replay.specs.Steps.{begun_with, CallsFrom}
+use Rattle.text.specs.declared.writing.Output.{Output}
+use Rattle.call_replay.specs.Steps.{CallsFrom}
 use Rattle.call_replay.proofs.benches.run_calls.Given as goal
 
-abbrev pub invariant-loop-q : goal.invariant-loop-q
-invariant-loop-q l = (b : Bench) (p : Progress) (hops : List Hop) (book out : List ℕ)
-    → CallsFrom l.calls l.bench l.p l.hops l.book l.out b p hops book out
-    → CallsFrom l.calls l.fn.start (begun_with l.calls) l.initial.hops l.initial.book l.initial.out b p hops book out
-
-abbrev pub decreases-loop-q : goal.decreases-loop-q
-decreases-loop-q l = l.p.left
+abbrev pub invariant-loop-call : goal.invariant-loop-call
+invariant-loop-call l =
+    (l.call-iterator.size ≡ 6) × (l.output.out.ghost_name ≡ l.initial.output.out.ghost_name)
+    × ((b : Bench) (hops : List Hop) (book : List ℕ) (o : Output ℕ)
+    → CallsFrom l.call-iterator.rest.now l.bench l.hops l.book l.output b hops book o
+    → CallsFrom l.calls l.fn.start l.initial.hops l.initial.book l.initial.output b hops book o)

@@ -1,17 +1,15 @@
 use mathlib.Core.Path.{sym, ◌∙◌}
-use Rattle.sets.proofs.Bools.{cond-true, cond-false}
-use Rattle.forest.specs.Calls.{accepts}
-use Rattle.forest.proofs.Shared.{groups-rest}
+use Rattle.std.proofs.lemmas.Result.{err_from_is_err_and}
+use Rattle.forest.specs.Calls.{refusal}
+use Rattle.forest.proofs.Shared.{good-groups, bad-groups}
 use Rattle.forest.proofs.drawing.judge.Goals as goal
 
-pub returns-then-is_accepted : goal.returns-then-is_accepted
-unfolding accepts
-returns-then-is_accepted c =
-    c.judge_parents.ensures
-    ∙ sym (groups-rest _ _ _ _ _ c.judge-first.ensures
-    ∙ cond-true _ _ _ (sym c.is_accepted.ensures ∙ c.if-is_accepted.true))
+pub returns-in_err-judge : goal.returns-in_err-judge
+unfolding refusal
+returns-in_err-judge c =
+    let p = err_from_is_err_and c.from_residual.result c.from_residual.ensures.1 in
+    rw (p.1, p.2) (bad-groups _ _ _ _ _ c.in_err-judge.ensures)
 
 pub returns : goal.returns
-unfolding accepts
-returns c =
-    sym (groups-rest _ _ _ _ _ c.judge-first.ensures ∙ cond-false _ _ _ (sym c.is_accepted.ensures ∙ c.if-is_accepted.false))
+unfolding refusal
+returns c = c.judge_parents.ensures ∙ sym (good-groups _ _ _ _ (sym c.in_ok-judge.ensures))

@@ -1,5 +1,5 @@
 use mathlib.Core.List.{List}
-use Prim.Native.Nat.{ℕ, ◌-◌}
+use Prim.Native.Nat.{ℕ}
 use lib.ListN.{get_or}
 use Rattle.sets.specs.Sets.{below}
 use Rattle.layout.proofs.Loops.{Filled}
@@ -11,6 +11,3 @@ abbrev pub invariant-loop-g : goal.invariant-loop-g
 invariant-loop-g l =
     (ps : List ℕ) → Ancestors ps (below 32) l.above
     → Filled 24 (λ i. primary ps (get_or l.groups i 0)) l.primaries l.g × Filled 24 (λ i. route ps (get_or l.groups i 0)) l.routes l.g
-
-abbrev pub decreases-loop-g : goal.decreases-loop-g
-decreases-loop-g l = 24 - l.g

@@ -1,84 +1,30 @@
--- Each arm is a case of the rule.
-use native.Mathlib.Omega.{arith}
+-- Each way out is a case of the rule.
 use mathlib.Core.Path.{sym, ◌∙◌}
+use Rattle.std.proofs.lemmas.Result.{err_from_is_err_and}
 use Rattle.lines.specs.Lines.{parents_key, build_word}
-use Rattle.lines.proofs.Ends.{Found, end-found}
 use Rattle.lines.proofs.Drawings.{drawing-missing, drawing_build, drawing-faulty, drawing-drawn}
 use Rattle.lines.proofs.entries.parents.Goals as goal
 
-pub returns-then-end-rest : goal.returns-then-end-rest
+pub returns-in_err-line : goal.returns-in_err-line
 unfolding parents_key
-returns-then-end-rest c =
-    c.undrawn.ensures ∙ sym (drawing-missing c.args.units c.args.rest.now c.line_end-end.result c.line_end-end.ensures c.if-end-rest.true)
-
-pub slice_bounds-is_word-count : goal.slice_bounds-is_word-count
-unfolding parents_key
-slice_bounds-is_word-count c =
-    let found : Found parents_key c.args.rest.now c.line_end-end.result = end-found _ _ _ c.line_end-end.ensures c.if-end-rest.false in
-    omega arith
-
-pub slice_bounds-is_word-start : goal.slice_bounds-is_word-start
-unfolding parents_key
-slice_bounds-is_word-start c =
-    let found : Found parents_key c.args.rest.now c.line_end-end.result = end-found _ _ _ c.line_end-end.ensures c.if-end-rest.false in
-    omega arith
-
-pub slice_bounds-is_word-end : goal.slice_bounds-is_word-end
-unfolding parents_key
-slice_bounds-is_word-end c =
-    let found : Found parents_key c.args.rest.now c.line_end-end.result = end-found _ _ _ c.line_end-end.ensures c.if-end-rest.false in
-    omega arith
-
-pub overflow_add-end : goal.overflow_add-end
-unfolding parents_key
-overflow_add-end c =
-    let found : Found parents_key c.args.rest.now c.line_end-end.result = end-found _ _ _ c.line_end-end.ensures c.if-end-rest.false in
-    omega arith
+returns-in_err-line c =
+    let p = err_from_is_err_and c.from_residual.result c.from_residual.ensures.1 in
+    rw (p.1, p.2) (drawing-missing _ c.in_err-line.ensures)
 
 pub returns-then-is_word : goal.returns-then-is_word
 unfolding parents_key build_word
-returns-then-is_word c =
-    let found : Found parents_key c.args.rest.now c.line_end-end.result = end-found _ _ _ c.line_end-end.ensures c.if-end-rest.false in
-    c.undrawn-then-is_word.ensures
-    ∙ sym (drawing_build c.args.units c.args.rest.now _ found (sym c.is_word.ensures ∙ c.if-is_word.true))
+returns-then-is_word c = drawing_build c.in_ok-line.ensures _ (sym c.is_word.ensures ∙ c.if-is_word.true)
 
-pub slice_bounds-read_entries-count : goal.slice_bounds-read_entries-count
-unfolding parents_key
-slice_bounds-read_entries-count c =
-    let found : Found parents_key c.args.rest.now c.line_end-end.result = end-found _ _ _ c.line_end-end.ensures c.if-end-rest.false in
-    omega arith
-
-pub slice_bounds-read_entries-start : goal.slice_bounds-read_entries-start
-unfolding parents_key
-slice_bounds-read_entries-start c =
-    let found : Found parents_key c.args.rest.now c.line_end-end.result = end-found _ _ _ c.line_end-end.ensures c.if-end-rest.false in
-    omega arith
-
-pub slice_bounds-read_entries-end : goal.slice_bounds-read_entries-end
-unfolding parents_key
-slice_bounds-read_entries-end c =
-    let found : Found parents_key c.args.rest.now c.line_end-end.result = end-found _ _ _ c.line_end-end.ensures c.if-end-rest.false in
-    omega arith
-
-pub returns-then-number-ne0 : goal.returns-then-number-ne0
+pub returns-in_err-drawn : goal.returns-in_err-drawn
 unfolding parents_key build_word
-returns-then-number-ne0 c =
-    let found : Found parents_key c.args.rest.now c.line_end-end.result = end-found _ _ _ c.line_end-end.ensures c.if-end-rest.false in
-    let other = sym c.is_word.ensures ∙ c.if-is_word.false in
-    c.undrawn-then-number-ne0.ensures
-    ∙ sym (drawing-faulty c.args.units c.args.rest.now _ found c.ranges.units.fits other c.read_entries-found.result c.fault-number.result
-    c.read_entries-found.ensures c.fault-number.ensures c.if-number-ne0.true)
-
-pub overflow_add-result : goal.overflow_add-result
-unfolding parents_key
-overflow_add-result c =
-    let found : Found parents_key c.args.rest.now c.line_end-end.result = end-found _ _ _ c.line_end-end.ensures c.if-end-rest.false in
-    omega arith
+returns-in_err-drawn c =
+    let p = err_from_is_err_and c.from_residual-in_err-drawn.result c.from_residual-in_err-drawn.ensures.1 in
+    rw (p.1, p.2)
+    (drawing-faulty c.in_ok-line.ensures _ c.ranges.units.fits (sym c.is_word.ensures ∙ c.if-is_word.false) c.read_entries.ensures
+    _ c.in_err-drawn.ensures)
 
 pub returns : goal.returns
 unfolding parents_key build_word
 returns c =
-    let found : Found parents_key c.args.rest.now c.line_end-end.result = end-found _ _ _ c.line_end-end.ensures c.if-end-rest.false in
-    let other = sym c.is_word.ensures ∙ c.if-is_word.false in
-    sym (drawing-drawn c.args.units c.args.rest.now _ found c.ranges.units.fits other c.read_entries-found.result c.fault-number.result
-    c.read_entries-found.ensures c.fault-number.ensures c.if-number-ne0.false)
+    drawing-drawn c.in_ok-line.ensures _ c.ranges.units.fits (sym c.is_word.ensures ∙ c.if-is_word.false) c.read_entries.ensures
+    c.in_ok-drawn.ensures

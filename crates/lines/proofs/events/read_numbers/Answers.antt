@@ -1,30 +1,20 @@
-use native.Mathlib.Omega.{arith}
-use mathlib.Core.Path.{ap, ◌∙◌}
+-- The pieces between the commas are added one after the other.
+use mathlib.Core.Path.{◌∙◌}
+use lib.Dec.{eqb}
+use Rattle.std.proofs.Common.{rules, tests}
+use Rattle.std.proofs.lemmas.Iterator.Consumers.{fold_from_yields_List}
+use Rattle.std.proofs.lemmas.Iterator.Splits.{YieldsList-from_slice_split}
+use Rattle.text.specs.Text.{number}
 use Rattle.lines.specs.Lines.{numbers_in}
 use Rattle.lines.specs.Fields.{with_number}
-use Rattle.lines.proofs.Ends.{reading-start, reading-within, reading-turn, reading-end}
+use Rattle.lines.proofs.Folds.{pieces_folded}
 use Rattle.lines.proofs.events.read_numbers.Goals as goal
-
-pub loop-at-init : goal.loop-at-init
-loop-at-init c = reading-start c.none-found.ensures
-
-pub overflow_add-end : goal.overflow_add-end
-overflow_add-end c = omega (arith, reading-within c.loop-at.invariant c.loop-at-test.true c.find.ensures)
-
-pub slice_bounds-number-end : goal.slice_bounds-number-end
-slice_bounds-number-end c = omega (arith, reading-within c.loop-at.invariant c.loop-at-test.true c.find.ensures)
-
-pub overflow_add-at : goal.overflow_add-at
-overflow_add-at c = omega (arith, reading-within c.loop-at.invariant c.loop-at-test.true c.find.ensures)
-
-pub loop-at-smaller : goal.loop-at-smaller
-loop-at-smaller c = omega (arith, reading-within c.loop-at.invariant c.loop-at-test.true c.find.ensures)
-
-pub loop-at-preserved : goal.loop-at-preserved
-loop-at-preserved c =
-    reading-turn c.loop-at.invariant c.loop-at-test.true c.find.ensures
-    (c.with_number-next.ensures ∙ ap (with_number _) c.number.ensures)
 
 pub returns : goal.returns
 unfolding numbers_in
-returns c = reading-end c.loop-at.invariant c.loop-at-test.false
+returns c =
+    fold_from_yields_List _ (λ s p. with_number s (number p)) _ _ c.fold.ensures.ran
+    (YieldsList-from_slice_split _ (λ b. eqb b 44) c.args.value.now c.split.ensures.rest c.split.ensures.done
+    c.split.ensures.closure (λ x r q k. search (rules, tests)))
+    (λ a x b q k. search rules)
+    ∙ pieces_folded (with_number) number c.none.ensures c.args.value.now

@@ -1,61 +1,45 @@
--- A turn is one event more, and it counts one.
+-- A turn is one event more.
 use mathlib.Core.Path.{◌≡◌, refl, sym, ap, ◌∙◌}
-use mathlib.Core.Bool.{true}
 use mathlib.Core.List.{List}
-use Prim.Native.Nat.{ℕ, ◌+◌, ◌-◌, ◌<◌}
+use Prim.Native.Nat.{ℕ, ◌+◌, ◌≤◌, ◌<◌}
 use native.Mathlib.Omega.{arith}
-use borrow.Author.Tests.{ltb-true}
-use Rattle.sets.proofs.Bools.{and_left}
 use Rattle.model.specs.declared.Hop.{Hop}
+use Rattle.text.specs.declared.writing.Output.{Output}
 use Rattle.bench_promises.specs.State.{Bench, bench}
-use Rattle.bench_promises.proofs.Padding.{plus-small}
 use Rattle.runner.specs.declared.events.Event.{Event}
 use Rattle.runner.specs.declared.events.Progress.{Progress}
-use Rattle.runner.specs.Steps.{is_going, event_at, after_send, after_arrive, EventRun, sent, arrived, advanced, Noted, EventsRun, over}
-use Rattle.runner.specs.Steps.{next}
+use Rattle.runner.specs.Steps.{event_count, event_at, EventRun, advanced, Noted, EventsRun, over, next}
 use Rattle.runner.proofs.events.run_events.Goals as goal
 
-same-count : {p q : Progress} {b b' : Bench} {e : Event} {hops hops' : List Hop} {book book' : List ℕ}
-    → EventRun p b e hops book q b' hops' book' → q.count ≡ p.count
-unfolding after_send after_arrive
-same-count (sent r s promise) = refl
-same-count (arrived r a promise) = refl
-
-noted-totals : {q r : Progress} {out out' : List ℕ} → Noted q out r out' → q.totals ≡ r.totals
+noted-totals : {q r : Progress} {o o' : Output ℕ} → Noted q o r o' → q.totals ≡ r.totals
 unfolding advanced
 noted-totals noted = sym (ap (λ (s : Progress). s.totals) noted.goes_on)
 
-nearer : (list : List ℕ) {p q r : Progress} {b b' : Bench} {e : Event} {hops hops' : List Hop} {book book' out out' : List ℕ}
-    → true ≡ is_going p.count list → EventRun p b e hops book q b' hops' book' → Noted q out r out'
-    → 3000 - r.count < 3000 - p.count
-unfolding is_going advanced
-nearer list {p} {q} {r} goes ran noted =
-    let few : p.count < 3000 = ltb-true p.count 3000 (and_left _ _ (sym goes)) in
-    let same : q.count ≡ p.count = same-count ran in
-    let more : r.count ≡ q.count + 1 = ap (λ (s : Progress). s.count) noted.goes_on ∙ plus-small q.count 1 (omega (arith, few, same))
-    in
-    omega (arith, few, same, more)
-
-turn : {list ts ms gs : List ℕ} {ps : List (List (List ℕ))} {p q r end : Progress} {b last : Bench} {e : Event}
-    {hops hops' hops'' : List Hop} {book book' book'' out out' out'' : List ℕ} → true ≡ is_going p.count list → e
-    ≡ event_at p.count list
-    → EventRun p b e hops book q (bench q.totals ts ms ps gs) hops' book' → Noted q out r out'
-    → EventsRun list r (bench r.totals ts ms ps gs) hops' book' out' end last hops'' book'' out''
-    → EventsRun list p b hops book out end last hops'' book'' out''
-turn {list} {ts} {ms} {gs} {ps} {p} {q} {b = b} {hops = hops} {hops'} {book = book} {book'} goes event ran noted rest =
-    next (sym goes)
+turn : {n count : ℕ} {list ts ms gs : List ℕ} {ps : List (List (List ℕ))} {p q r end : Progress} {b last : Bench} {e : Event}
+    {hops hops' hops'' : List Hop} {book book' book'' : List ℕ} {o o' o'' : Output ℕ} → count ≡ event_count list → n < count
+    → e ≡ event_at n list
+    → EventRun p b e hops book q (bench q.totals ts ms ps gs) hops' book' → Noted q o r o'
+    → EventsRun list (n + 1) r (bench r.totals ts ms ps gs) hops' book' o' end last hops'' book'' o''
+    → EventsRun list n p b hops book o end last hops'' book'' o''
+turn {ts = ts} {ms} {gs} {ps} {p} {q} {b = b} {hops = hops} {hops'} {book = book} {book'} counted more event ran noted rest =
+    next (omega (arith, counted, more))
     (coe 0 1 (i. EventRun p b (event i) hops book q (bench (noted-totals noted i) ts ms ps gs) hops' book') ran) noted rest
 
-pub loop-e-init : goal.loop-e-init
-loop-e-init c = λ end last hops book out rest. rest
+pub loop-n-init : goal.loop-n-init
+loop-n-init c = (refl, λ end last hops book o rest. rest)
 
-pub loop-e-preserved : goal.loop-e-preserved
-loop-e-preserved c = λ end last hops book out rest.
-    c.loop-e.invariant end last hops book out
-    (turn c.loop-e-test.ensures c.event_at-e.ensures c.run_event-q.ensures c.noted-p.ensures rest)
+pub loop-n-preserved : goal.loop-n-preserved
+loop-n-preserved c = (
+  c.noted-p.ensures.prints.same_list ∙ c.loop-n.invariant.0,
+  λ end last hops book o rest.
+      c.loop-n.invariant.1 end last hops book o
+      (turn c.event_count-n-end.ensures c.loop-n-test.true c.event_at-e.ensures c.run_event-q.ensures c.noted-p.ensures rest),
+)
 
-pub loop-e-smaller : goal.loop-e-smaller
-loop-e-smaller c = nearer _ c.loop-e-test.ensures c.run_event-q.ensures c.noted-p.ensures
+pub returns-clause-same_list : goal.returns-clause-same_list
+returns-clause-same_list c = c.loop-n.invariant.0
 
-pub returns : goal.returns
-returns c = c.loop-e.invariant _ _ _ _ _ (over (sym c.loop-e-test.ensures))
+pub returns-clause-run : goal.returns-clause-run
+returns-clause-run c =
+    let all : event_count c.args.list.now ≤ c.loop-n.n = omega (arith, c.event_count-n-end.ensures, c.loop-n-test.false) in
+    c.loop-n.invariant.1 _ _ _ _ _ (over all)

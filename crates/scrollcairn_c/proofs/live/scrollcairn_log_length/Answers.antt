@@ -13,7 +13,7 @@ pub returns-then-is_log_short : goal.returns-then-is_log_short
 returns-then-is_log_short c =
     let a = c.args in
     subst (LengthExported a.unit a.tables.now a.gauges.now a.book.now)
-    (sym (reply-is c.of_length.result _ c.of_length.ensures))
+    (sym (reply-is c.refused.result _ c.refused.ensures))
     (length-refused a.unit a.tables.now a.gauges.now a.book.now
     (sym c.is_log_short.ensures ∙ c.if-is_log_short.true))
 
@@ -34,7 +34,7 @@ unfolding bench_in
 returns c =
     record {
       said = c.log_length-reply.result;
-      answers = reply-is c.of_length-2.result _ c.of_length-2.ensures;
+      answers = reply-is c.from.result _ c.from.ensures;
       short = λ t. absurd (clash t (sym c.is_log_short.ensures ∙ c.if-is_log_short.false));
       promise = λ t ms ps. c.log_length-reply.ensures t (take 600 ms) (take 2 ps);
     }

@@ -7,4 +7,4 @@ pub returns : goal.returns
 unfolding step_of
 returns c =
     let arg = c.args.arrived in
-    λ i. record { totals = arg.totals; reply = reply-is c.of_arrive.result _ c.of_arrive.ensures i }
+    λ i. record { totals = arg.totals; reply = reply-is c.from.result _ c.from.ensures i }

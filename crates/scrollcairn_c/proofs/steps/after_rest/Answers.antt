@@ -3,4 +3,4 @@ use Rattle.c_answers.proofs.Threes.{reply-is}
 use Rattle.scrollcairn_c.proofs.steps.after_rest.Goals as goal
 
 pub returns : goal.returns
-returns c = reply-is c.of_rest.result _ c.of_rest.ensures
+returns c = reply-is c.from.result _ c.from.ensures

@@ -7,4 +7,4 @@ pub returns : goal.returns
 unfolding step_of
 returns c =
     let arg = c.args.sent in
-    λ i. record { totals = arg.totals; reply = reply-is c.of_send.result _ c.of_send.ensures i }
+    λ i. record { totals = arg.totals; reply = reply-is c.from.result _ c.from.ensures i }

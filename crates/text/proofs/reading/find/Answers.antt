@@ -1,12 +1,17 @@
-use native.Mathlib.Omega.{arith}
-use Rattle.text.proofs.Places.{place_here, place-next, place_end}
+-- The place that `position` answers is the one of the rule.
+use mathlib.Core.Path.{refl, ap, ◌∙◌}
+use lib.Dec.{eqb}
+use lib.ListN.{length}
+use Rattle.std.proofs.Common.{rules, tests}
+use Rattle.std.proofs.lemmas.Iterator.{YieldsList-from_slice}
+use Rattle.std.proofs.lemmas.Iterator.Search.{position_from_yields_List}
+use Rattle.std.specs.Option.{unwrap_or}
+use Rattle.text.proofs.Places.{place_found}
 use Rattle.text.proofs.reading.find.Goals as goal
 
-pub returns-then-text-at : goal.returns-then-text-at
-returns-then-text-at c = omega (arith, place_here _ c.args.text.now c.loop-at.at c.loop-at-test.true c.if-text-at.true)
-
-pub loop-at-preserved : goal.loop-at-preserved
-loop-at-preserved c = omega (arith, place-next _ c.args.text.now c.loop-at.at c.loop-at-test.true c.if-text-at.false)
-
 pub returns : goal.returns
-returns c = omega (arith, place_end c.args.byte c.args.text.now c.loop-at.at c.loop-at-test.false)
+returns c =
+    let text = c.args.text.now in
+    let found = position_from_yields_List (λ b. eqb b c.args.byte) _ _ c.position.result c.position.ensures.ran
+    (YieldsList-from_slice text cc) (λ x b q k. search (rules, tests)) in
+    c.unwrap_or.ensures ∙ ap (λ r. unwrap_or r (length text)) found ∙ place_found c.args.byte text _ refl

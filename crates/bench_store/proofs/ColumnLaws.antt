@@ -10,10 +10,13 @@ use Rattle.bench_store.specs.Values.{item_at, with_column}
 
 -- the column of n numbers from place k on, and number i of it
 module _ {A : Type 0} (l : List A) (k n i : ℕ) where
-  pub column_read : (x none : A) → x ≡ get_or l (k + i) x → i < min n (length l - k) → x ≡ item_at none l k n i
+  pub column_read : (none : A) → i < n → get_or l (k + i) none ≡ item_at none l k n i
   unfolding item_at
-  column_read x none is h =
-      is ∙ get_or_default l (k + i) x none (omega arith) ∙ rw (get_or-take n (drop k l) i none (omega arith), get_or-drop)
+  column_read none h = rw (get_or-take n (drop k l) i none h, get_or-drop)
+
+  -- an item x that is there
+  pub column_item : (x none : A) → x ≡ get_or l (k + i) x → i < min n (length l - k) → x ≡ item_at none l k n i
+  column_item x none is h = is ∙ get_or_default l (k + i) x none (omega arith) ∙ column_read none (omega arith)
 
   pub column_none : (none : A) → min n (length l - k) ≤ i → none ≡ item_at none l k n i
   unfolding item_at

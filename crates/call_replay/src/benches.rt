@@ -18,15 +18,16 @@ pub struct Ended {
     pub numbers: usize,
 }
 
-// Runs one call, lent the first of the hops and of the book, and puts its reply; answers the bench that it leaves.
+// Runs one call on a bench, lent the first of the hops and of the book, and puts its reply. The bench is lent too: a call that only looks
+// at it copies it once, for the call by value.
 fn run_call(
-    bench: Bench,
+    bench: &mut Bench,
     request: Request,
     hops: &mut [model::Hop],
     book: &mut [u16],
     output: &mut Output<u16>,
-) -> Bench
-    ensures { CallRun bench hops.old book.old output.old request result hops.new book.new output.new }
+)
+    ensures { CallRun bench.old hops.old book.old output.old request bench.new hops.new book.new output.new }
 {
     match request {
         Request::Send {
@@ -38,7 +39,7 @@ fn run_call(
             let n = lent(hops_asked, hops.len());
             let sent = bench.send(source, group, word, &mut hops[..n]);
             replies::put_three(output, Reply::from(sent.reply));
-            sent.bench
+            *bench = sent.bench;
         }
         Request::Arrive {
             hop,
@@ -49,23 +50,20 @@ fn run_call(
             let m = lent(book_asked, book.len());
             let arrived = bench.arrive(hop, &mut hops[..n], &mut book[..m]);
             replies::put_three(output, Reply::from(arrived.reply));
-            arrived.bench
+            *bench = arrived.bench;
         }
         Request::Log { unit, book_asked } => {
             let m = lent(book_asked, book.len());
             replies::put_log(output, bench, unit, &book[..m]);
-            bench
         }
         Request::Length { unit, book_asked } => {
             let m = lent(book_asked, book.len());
             replies::put_length(output, bench, unit, &book[..m]);
-            bench
         }
         Request::Rest { hops_asked } => {
             let n = lent(hops_asked, hops.len());
             let rest = bench.rest(&hops[..n]);
             replies::put_three(output, Reply::from(rest));
-            bench
         }
     }
 }
@@ -85,7 +83,7 @@ fn run_calls(
     let mut bench = start;
     for call in calls.chunks_exact(Sizes::CALL) {
         let request = requests::request_in(call);
-        bench = run_call(bench, request, hops, book, output);
+        run_call(&mut bench, request, hops, book, output);
     }
     bench
 }

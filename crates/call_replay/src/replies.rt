@@ -18,8 +18,8 @@ pub fn put_three(output: &mut Output<u16>, reply: Reply)
 }
 
 // What log hands back.
-pub fn put_log(output: &mut Output<u16>, bench: Bench, unit: u16, book: &[u16])
-    ensures { LogPut bench unit book.now output.old output.new }
+pub fn put_log(output: &mut Output<u16>, bench: &Bench, unit: u16, book: &[u16])
+    ensures { LogPut bench.now unit book.now output.old output.new }
 {
     let log = bench.log(unit, book);
     put_three(output, replies::told(7, (log.len() % 65536) as u16));
@@ -27,8 +27,8 @@ pub fn put_log(output: &mut Output<u16>, bench: Bench, unit: u16, book: &[u16])
 }
 
 // What the second log call answers.
-pub fn put_length(output: &mut Output<u16>, bench: Bench, unit: u16, book: &[u16])
-    ensures { LengthPut bench unit book.now output.old output.new }
+pub fn put_length(output: &mut Output<u16>, bench: &Bench, unit: u16, book: &[u16])
+    ensures { LengthPut bench.now unit book.now output.old output.new }
 {
     let reply = bench.log_length(unit, book);
     put_three(output, Reply::from(reply));

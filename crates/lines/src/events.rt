@@ -5,8 +5,9 @@ ghost use Rattle.text.specs.Text.{number as number_of};
 ghost use Rattle.lines.specs.Lines.{numbers_in, event_fault};
 ghost use Rattle.lines.specs.Fields.{fault_number, no_numbers, with_number, send_fault, send_numbers, said_in, Reads};
 
-use crate::fields::{keyed, limited};
+use crate::fields::{behind, limited};
 use crate::{Fault, Line, counted, listed};
+use text::reading::find;
 
 // What the numbers of a send so far say: how many there are, counted to 4, and the first three. No list keeps them: memory is fixed.
 #[derive(Clone, Copy)]
@@ -68,14 +69,16 @@ fn send(t: Triple) -> Result<[u32; 3], Fault>
 pub fn event(rest: &[u8]) -> Result<Line<[u32; 3]>, Fault>
     ensures { Reads (event_fault 0) said_in rest.now result }
 {
-    if let Ok(line) = keyed(rest, b"send=") {
+    // the LF is looked for once, whichever key the line has
+    let end = find(rest, b'\n');
+    if let Ok(line) = behind(rest, end, b"send=") {
         let value = send(read_numbers(line.value))?;
         return Ok(Line {
             value,
             used: line.used,
         });
     }
-    let line = keyed(rest, b"arrive=")?;
+    let line = behind(rest, end, b"arrive=")?;
     let hop = limited(line.value, 65535)?;
     Ok(Line {
         value: [0, hop, 0],

@@ -1,6 +1,7 @@
 // Lines that say one number: `units=` and `groups=`.
 ghost use Rattle.std.specs.Prelude.{◌≡◌, ◌≤◌, ◌<◌, MatchResult};
 ghost use Rattle.text.specs.Text.{number as number_of};
+ghost use Rattle.text.specs.Writing.{place_of};
 ghost use Rattle.lines.specs.Lines.{count_fault, count_in, units_fault, groups_fault, units_key, groups_key};
 ghost use Rattle.lines.specs.Fields.{Keyed, Keyless, Reads};
 ghost use Rattle.lines.specs.declared.Fault.TheVariants.{BadValue};
@@ -8,11 +9,11 @@ ghost use Rattle.lines.specs.declared.Fault.TheVariants.{BadValue};
 use crate::{Fault, Line};
 use text::reading::{find, number, starts_with};
 
-// What stands behind a key, where the line at the start of the rest of a file has its LF and begins with the key.
-pub fn keyed<'a>(rest: &'a [u8], key: &[u8]) -> Result<Line<&'a [u8]>, Fault>
+// What stands behind a key, where the line at the start of the rest of a file has its LF, at `end`, and begins with the key.
+pub fn behind<'a>(rest: &'a [u8], end: usize, key: &[u8]) -> Result<Line<&'a [u8]>, Fault>
+    requires { end ≡ place_of 10 rest.now }
     ensures { MatchResult result (λ line. Keyed key.now rest.now line.value.now line.used) (Keyless key.now rest.now) }
 {
-    let end = find(rest, b'\n');
     if end == rest.len() || !starts_with(&rest[..end], key) {
         return Err(Fault::NoLine);
     }
@@ -20,6 +21,13 @@ pub fn keyed<'a>(rest: &'a [u8], key: &[u8]) -> Result<Line<&'a [u8]>, Fault>
         value: &rest[key.len()..end],
         used: end + 1,
     })
+}
+
+// The same, where the line may have no other key, so that its LF is looked for here.
+pub fn keyed<'a>(rest: &'a [u8], key: &[u8]) -> Result<Line<&'a [u8]>, Fault>
+    ensures { MatchResult result (λ line. Keyed key.now rest.now line.value.now line.used) (Keyless key.now rest.now) }
+{
+    behind(rest, find(rest, b'\n'), key)
 }
 
 // A number up to a limit.

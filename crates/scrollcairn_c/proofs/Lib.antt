@@ -1,6 +1,7 @@
 pub mod Reading
 pub mod Whole
 pub mod Refused
+pub mod Stored
 pub mod Made
 pub mod Opened
 pub mod Theorems

@@ -81,6 +81,15 @@ pub fn step(reply: Reply) -> Step
 
 // ---- the lists
 
+// The items of a list, at the start of another, as far as that reaches: copied at once, since an array of counts by value takes a frame of
+// its own.
+fn put_first<T: Copy>(list: &mut [T], items: &[T])
+    ensures { list.new ≡ sets list.old 0 items.now }
+{
+    let end = items.len().min(list.len());
+    list[..end].copy_from_slice(&items[..end]);
+}
+
 // The lists of a fresh bench, at the start of those lent, which are the C call's.
 pub fn store(
     fresh: Fresh,
@@ -94,10 +103,8 @@ pub fn store(
         × (pairs.new ≡ sets pairs.old 0 fresh.bench.pairs.grids)
         × (gauges.new ≡ sets gauges.old 0 fresh.bench.gauges) }
 {
-    let bench = fresh.bench;
-    let grids = bench.pairs.grids();
-    text::writing::put_all(tables, 0, &bench.tables);
-    text::writing::put_all(messages, 0, &bench.messages);
-    text::writing::put_all(pairs, 0, &grids);
-    text::writing::put_all(gauges, 0, &bench.gauges);
+    put_first(tables, &fresh.bench.tables);
+    put_first(messages, &fresh.bench.messages);
+    put_first(pairs, &fresh.bench.pairs.grids);
+    put_first(gauges, &fresh.bench.gauges);
 }

@@ -26,7 +26,7 @@ pub loop-call-preserved : goal.loop-call-preserved
 loop-call-preserved c =
     let kept = c.loop-call.invariant in
     let taken = c.in-Some.ensures.steps in
-    let ran = rw c.request_in-request.ensures at c.run_call-bench.ensures in (
+    let ran = rw c.request_in-request.ensures at c.run_call.ensures in (
       taken.0 ∙ kept.0,
       same_list ran ∙ kept.1,
       λ b hops book o later. kept.2 b hops book o (rw taken.1.0 (next c.in-Some.call.now (taken.1.1 ∙ kept.0) ran later)),

@@ -4,7 +4,7 @@
 
 mod forwarding;
 
-ghost use Rattle.std.specs.Prelude.{◌≡◌, ◌-◌, set};
+ghost use Rattle.std.specs.Prelude.{◌≡◌, ◌+◌, ◌*◌, ◌-◌, set};
 ghost use Rattle.model.specs.Network.{hop_at, set_state, is_pair, no_hop as zeros};
 ghost use Rattle.bench_store.specs.Values.{filled};
 ghost use Rattle.hops.specs.Access.{next_of_pair};
@@ -84,10 +84,17 @@ pub fn next_of_pair(hops: &[model::Hop], sender: u8, receiver: u8, from: usize, 
     from.max(end)
 }
 
+// A pair as one number, which a search compares at one go.
+fn pair_number(sender: u8, receiver: u8) -> u16
+    ensures { result ≡ sender + 256 * receiver }
+{
+    u16::from(sender) + 256 * u16::from(receiver)
+}
+
 // Whether the hop goes from a sender to a receiver.
-#[tactic(auto, unfolding(model::specs::Network::is_pair))]
+#[tactic(auto, using(std::proofs::lemmas::Bool::Decides::nat_tests), unfolding(model::specs::Network::is_pair))]
 fn is_pair(hop: model::Hop, sender: u8, receiver: u8) -> bool
     ensures { result ≡ is_pair sender receiver hop }
 {
-    hop.sender == sender && hop.receiver == receiver
+    pair_number(hop.sender, hop.receiver) == pair_number(sender, receiver)
 }

@@ -457,6 +457,26 @@ lowest_of_some s h n =
 pub not-empty : (s u : ℕ) → member s u ≡ true → s ≡ 0 → ⊥
 not-empty s u m e = clash m (ap (λ (x : ℕ). member x u) e ∙ member-empty u)
 
+-- a set has the member u where it shares one with the set of u alone
+pub shares_single : (s u : ℕ) → s < 2 ^ 32 → not (eqb (intersection s (single u)) 0) ≡ member s u
+shares_single s u h = same_test (not (eqb shared 0)) (member s u) one
+    (λ m. not_of_false (eqb shared 0) (ne_eqb shared 0 (not-empty shared u (member-shared u ∙ and_both (member s u) _ m
+    (and_both (ltb u 32) (eqb u u) (lt-ltb u 32 (member_below 32 s u h m)) (eq-eqb u u refl))))))
+  where
+    shared : ℕ
+    shared = intersection s (single u)
+
+    member-shared : (v : ℕ) → member shared v ≡ (member s v && (ltb u 32 && eqb u v))
+    member-shared v = member-intersection s (single u) v ∙ ap (λ (b : Bool). member s v && b) (member-single u v)
+
+    one : not (eqb shared 0) ≡ true → member s u ≡ true
+    one n =
+        let some = λ (e : shared ≡ 0). clash (eq-eqb shared 0 e) (false_of_not (eqb shared 0) n) in
+        let v = some-member 32 shared (intersection-below 32 s (single u) h) some in
+        let both = sym (member-shared v.0) ∙ v.2 in
+        let same = eqb-true u v.0 (and_right (ltb u 32) (eqb u v.0) (and_right (member s v.0) _ both)) in
+        subst (λ (w : ℕ). member s w ≡ true) (sym same) (and_left (member s v.0) _ both)
+
 -- of two sets, the one inside the other, either the other is inside the one or it has more members
 pub same_or_more : (s t : ℕ) → Subset s t → t < 2 ^ 32 → Subset t s ⊎ (size s < size t)
 unfolding Subset
